@@ -20,7 +20,7 @@ use Rattle.net.specs.Looks.{sheet-checks, arc-checks}
 use Rattle.net.specs.Drafts.{next-place, place-table, with-place, transition-table, with-transition, arc-table, with-number, question-table, with-question, started, Call, place, transition, arc-in, arc-out, question, clear, called, after-calls}
 use Rattle.net.specs.Qualities.{Qualities, Sound, Drafts-have-qualities}
 use Rattle.net.proofs.Tables.{passed, ok-same, ok-not-err}
-use Rattle.net.proofs.Writes.{after-set, empty-cell}
+use Rattle.net.proofs.Writes.{after-set, length-by, number-by, empty-cell}
 
 -- What a part of the sheet reads after a write.
 pub part-set : (xs : List ℕ) (i v base p : ℕ) → i < length xs → (P : ℕ → Type 0) → (p < 64 → base + p ≡ i → P v) → P (part xs base p) → P (part (set xs i v) base p)
@@ -49,14 +49,6 @@ flag-set fs i p b h P same other = go (cases-eq p i)
     go (inr n) = rw getD-set-other (other n)
 
 -- The empty net.
-length-by : (f : ℕ → ℕ) → length (sheet-by f) ≡ 12352
-unfolding sheet-by
-length-by f = length-map-counting f 0 12352
-
-number-by : (f : ℕ → ℕ) (i : ℕ) → i < 12352 → getD (sheet-by f) i 0 ≡ f i
-unfolding sheet-by
-number-by f i h = getD-map-counting f 0 12352 i i 0 h (omega arith)
-
 empty-zero : (i : ℕ) → getD (empty .sheet) i 0 ≡ 0
 empty-zero i = go (cases-lt i 12352)
   where

@@ -14,6 +14,9 @@ ok-not-err h = let z : _≡_ {A = ℕ} 0 1 = cc in omega arith
 pub ok-same : {X F : Type 0} {x y : X} → _≡_ {A = Result X F} (Ok x) (Ok y) → x ≡ y
 ok-same h = cc
 
+pub err-same : {X F : Type 0} {x y : F} → _≡_ {A = Result X F} (Err x) (Err y) → x ≡ y
+err-same h = cc
+
 pub passed : {F X : Type 0} (cs : List (Check F)) (x y : X) → judged cs x ≡ Ok y → Passes cs × (x ≡ y)
 passed [] x y h = (tt, ok-same h)
 passed (c ∷ cs) x y h = go (λ k. passed cs x y k) (c .holds) refl h

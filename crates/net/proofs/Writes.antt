@@ -9,7 +9,7 @@ use lib.Dec.{ltb}
 use lib.ListN.{length, getD, set}
 use lib.Seq.{getD-set-same, getD-set-other}
 use Rattle.std.proofs.shelf.Tests.{cases-eq, cond-both}
-use Rattle.std.proofs.shelf.Counted.{fill-by-all}
+use Rattle.std.proofs.shelf.Counted.{fill-by-all, length-map-counting, getD-map-counting}
 use Rattle.net.specs.Sheets.{sheet-by, sheet-of, cell, number, no-row}
 
 -- What stands at `k` after a write at `i`.
@@ -32,3 +32,12 @@ empty-cell i =
 
 pub all-zero : (ys : List ℕ) → length ys ≡ 12352 → ((i : ℕ) → i < 12352 → getD ys i 0 ≡ 0) → ys ≡ sheet-of (λ _. 0) []
 all-zero ys h e = made-by (cell (λ _. 0) []) ys h (λ i l. e i l ∙ sym (empty-cell i))
+
+-- The numbers of a made sheet.
+pub length-by : (f : ℕ → ℕ) → length (sheet-by f) ≡ 12352
+unfolding sheet-by
+length-by f = length-map-counting f 0 12352
+
+pub number-by : (f : ℕ → ℕ) (i : ℕ) → i < 12352 → getD (sheet-by f) i 0 ≡ f i
+unfolding sheet-by
+number-by f i h = getD-map-counting f 0 12352 i i 0 h (omega arith)
