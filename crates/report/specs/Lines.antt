@@ -1,0 +1,76 @@
+-- The lines that the program prints for its input.
+use Prim.Native.Nat.{ℕ, zero, suc, _+_}
+use mathlib.Core.Bool.{Bool, cond}
+use mathlib.Core.List.{List, [], _∷_, _++_}
+use lib.Dec.{eqb, ltb}
+use lib.ListN.{length}
+use Rattle.std.specs.declared.result.Result.{Result}
+use Rattle.std.specs.declared.result.Result.the-variants.{Ok, Err}
+use Rattle.net.specs.declared.net.Look.{Look}
+use Rattle.net.specs.declared.net.Look.the-variants as look
+use Rattle.net.specs.declared.net.NetFault.{NetFault}
+use Rattle.net.specs.States.{State}
+use Rattle.net.specs.Looks.{looked}
+use Rattle.net.specs.Drafts.{started}
+use Rattle.stream.specs.declared.faults.ReadFault.{ReadFault}
+use Rattle.stream.specs.Faults.{read-told}
+use Rattle.stream.specs.Streams.{Reading, reading-into}
+use Rattle.report.specs.declared.line.Line.{Line}
+use Rattle.report.specs.declared.line.Line.the-variants.{Long, Net, Taken, Refused, Place, Take, Put}
+use Rattle.report.specs.declared.line.Side.{Side}
+use Rattle.report.specs.declared.line.Side.the-variants.{In, Out}
+
+-- The most bytes that the program reads.
+abbrev pub most-input : ℕ
+most-input = 32768
+
+-- The lines of 0, of 1, and so on below `n`, one after another.
+unfoldable pub below : ℕ → (ℕ → List Line) → List Line
+below zero f = []
+below (suc n) f = below n f ++ f n
+
+-- A standing place has a line: its number and its mark.
+abbrev pub shown-place : ℕ → Result ℕ NetFault → List Line
+shown-place p (Ok m) = Place p m ∷ []
+shown-place p (Err e) = []
+
+abbrev pub place-lines : State → List Line
+place-lines s = below 64 (λ p. shown-place p (looked s (look.Mark p)))
+
+-- An arc has a line: its transition, its place and its weight.
+abbrev pub side-look : Side → ℕ → ℕ → Look
+side-look In t p = look.Take t p
+side-look Out t p = look.Put t p
+
+abbrev pub side-line : Side → ℕ → ℕ → ℕ → Line
+side-line In t p w = Take t p w
+side-line Out t p w = Put t p w
+
+abbrev pub shown-arc : Side → ℕ → ℕ → Result ℕ NetFault → List Line
+shown-arc k t p (Ok w) = cond (eqb w 0) [] (side-line k t p w ∷ [])
+shown-arc k t p (Err e) = []
+
+abbrev pub side-lines : State → Side → ℕ → List Line
+side-lines s k t = below 64 (λ p. shown-arc k t p (looked s (side-look k t p)))
+
+-- For each transition its takes by place, then its puts by place.
+abbrev pub transition-lines : State → ℕ → List Line
+transition-lines s t = side-lines s In t ++ side-lines s Out t
+
+abbrev pub arc-lines : State → List Line
+arc-lines s = below (s .transitions) (λ t. transition-lines s t)
+
+abbrev pub net-lines : State → List Line
+net-lines s = place-lines s ++ arc-lines s
+
+-- No step is taken: bytes behind the net stream are refused, since nobody owns their first.
+abbrev pub step-lines : ℕ → ℕ → List Line
+step-lines used all = Taken 0 ∷ cond (ltb used all) (Refused 3 used ∷ []) []
+
+abbrev pub reading-lines : Result Reading ReadFault → ℕ → List Line
+reading-lines (Ok r) all = step-lines (r .used) all ++ net-lines (r .state)
+reading-lines (Err f) all = Net (read-told f .number) (read-told f .byte) ∷ []
+
+-- The lines for an input, over a sheet that holds anything.
+abbrev pub reported : List ℕ → List ℕ → List Line
+reported xs bs = cond (ltb most-input (length bs)) (Long ∷ []) (reading-lines (reading-into (started xs) bs) (length bs))
