@@ -7,15 +7,12 @@ use std::io::Read;
 // One byte more than the longest input, so that a longer one is seen to be long.
 const MOST_READ: u64 = 32_769;
 
-const SHEET_SIZE: usize = 12_352;
-
 fn run(rt: &LibcRuntime) -> Result<(), AnyError> {
     let heap = rt.alloc();
     let mut input = Vec::new(heap);
     let mut source = rt.stdin().take(MOST_READ);
     source.read_to_end(&mut input)?;
-    let mut sheet = vec![in heap; 0u32; SHEET_SIZE]?;
-    let lines = report(heap, &mut sheet, &input)?;
+    let lines = report(heap, &input)?;
     rt.print(print(heap, &lines)?)?;
     Ok(())
 }

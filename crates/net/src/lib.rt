@@ -115,9 +115,10 @@ fn wipe(sheet: &mut [u32])
 fn prepare(sheet: &mut [u32])
     ensures { λ _. ⌜ now (sheet .exit) ≡ started (now (sheet .entry)) .sheet ⌝ }
 {
-    if sheet.len() == SHEET_SIZE {
-        wipe(sheet);
+    if sheet.len() != SHEET_SIZE {
+        return;
     }
+    wipe(sheet);
 }
 
 // The lowest number that no place has.

@@ -11,10 +11,9 @@ use Rattle.net.specs.declared.net.Look.the-variants as look
 use Rattle.net.specs.declared.net.NetFault.{NetFault}
 use Rattle.net.specs.States.{State}
 use Rattle.net.specs.Looks.{looked}
-use Rattle.net.specs.Drafts.{started}
 use Rattle.stream.specs.declared.faults.ReadFault.{ReadFault}
 use Rattle.stream.specs.Faults.{read-told}
-use Rattle.stream.specs.Streams.{Reading, reading-into}
+use Rattle.stream.specs.Streams.{Reading, reading}
 use Rattle.report.specs.declared.line.Line.{Line}
 use Rattle.report.specs.declared.line.Line.the-variants.{Long, Net, Taken, Refused, Place, Take, Put}
 use Rattle.report.specs.declared.line.Side.{Side}
@@ -67,10 +66,14 @@ net-lines s = place-lines s ++ arc-lines s
 abbrev pub step-lines : ℕ → ℕ → List Line
 step-lines used all = Taken 0 ∷ cond (ltb used all) (Refused 3 used ∷ []) []
 
+-- A refused net has one line: the number of the refusal, and the byte where the refused command starts.
+abbrev pub fault-line : ReadFault → Line
+fault-line f = Net (read-told f .number) (read-told f .byte)
+
 abbrev pub reading-lines : Result Reading ReadFault → ℕ → List Line
 reading-lines (Ok r) all = step-lines (r .used) all ++ net-lines (r .state)
-reading-lines (Err f) all = Net (read-told f .number) (read-told f .byte) ∷ []
+reading-lines (Err f) all = fault-line f ∷ []
 
--- The lines for an input, over a sheet that holds anything.
-abbrev pub reported : List ℕ → List ℕ → List Line
-reported xs bs = cond (ltb most-input (length bs)) (Long ∷ []) (reading-lines (reading-into (started xs) bs) (length bs))
+-- The lines for an input.
+abbrev pub reported : List ℕ → List Line
+reported bs = cond (ltb most-input (length bs)) (Long ∷ []) (reading-lines (reading bs) (length bs))

@@ -4,12 +4,13 @@ ghost use mathlib.Core.List.{List, _++_, _∷_, []};
 ghost use Prim.Native.Nat.{ℕ, _+_, _*_, _<_, _≤_};
 ghost use lib.ListN.{length};
 ghost use Rattle.std.specs.Of.String.{string-bytes};
-ghost use Rattle.std.specs.Of.Vec.{vec-items};
+ghost use Rattle.std.specs.Of.Vec.{vec-items, vec-len};
 ghost use Rattle.std.specs.Vec.{made};
 ghost use Rattle.net.specs.declared.net.Look.the-variants.{Mark};
 ghost use Rattle.net.specs.Looks.{looked};
 ghost use Rattle.net.specs.States.{view};
-ghost use Rattle.report.specs.Lines.{shown-place, shown-arc, place-lines, side-look, side-line, side-lines, transition-lines, arc-lines, net-lines, step-lines, reported};
+ghost use Rattle.stream.specs.Streams.{reading};
+ghost use Rattle.report.specs.Lines.{shown-place, shown-arc, place-lines, side-look, side-line, side-lines, transition-lines, arc-lines, net-lines, step-lines, fault-line, reading-lines, reported};
 ghost use Rattle.report.specs.Texts.{text, ended-line, printed};
 
 mod line;
@@ -21,10 +22,14 @@ use net::Look;
 use net::Net;
 use std::alloc::AllocError;
 use std::alloc::Global;
+use stream::ReadFault;
 use stream::read;
 
 // The most bytes of an input.
 const MOST_INPUT: usize = 32_768;
+
+// The numbers of a sheet.
+const SHEET_SIZE: usize = 12_352;
 
 // The line of a place, if it stands.
 fn place_line(lines: &mut Vec<Line>, net: &Net<'_>, p: usize) -> Result<(), AllocError>
@@ -176,19 +181,40 @@ fn only(heap: Global, line: Line) -> Result<Vec<Line>, AllocError>
     Ok(lines)
 }
 
-// Reads a net from the front of the input into the lent sheet, and answers the lines to print.
-pub fn report(heap: Global, sheet: &mut [u32], input: &[u8]) -> Result<Vec<Line>, AllocError>
-    ensures { λ r. ⌜ made r (λ v. vec-items v ≡ reported (now (sheet .entry)) (now (input .entry))) ⌝ }
+// The line of a refused net: the number and the byte of the refused command.
+fn fault_line(fault: ReadFault) -> Line
+    ensures { λ r. ⌜ r ≡ fault-line fault ⌝ }
+{
+    let told = fault.told();
+    Line::Net(told.number, told.byte)
+}
+
+// A sheet of n numbers.
+fn new_sheet(heap: Global, n: usize) -> Result<Vec<u32>, AllocError>
+    ensures { λ r. ⌜ made r (λ v. vec-len v ≡ n) ⌝ }
+{
+    vec![in heap; 0u32; n]
+}
+
+// The lines to print for an input: reads a net from its front, over a sheet of the size of a net's sheet.
+fn report_over(heap: Global, sheet: &mut [u32], input: &[u8]) -> Result<Vec<Line>, AllocError>
+    requires { ⌜ length (now sheet) ≡ 12352 ⌝ }
+    ensures { λ r. ⌜ made r (λ v. vec-items v ≡ reading-lines (reading (now (input .entry))) (length (now (input .entry)))) ⌝ }
+{
+    let mut draft = Draft::start(sheet);
+    match read(&mut draft, input) {
+        Ok(used) => net_lines(heap, &draft.finish(), used, input.len()),
+        Err(fault) => only(heap, fault_line(fault)),
+    }
+}
+
+// The lines to print for an input.
+pub fn report(heap: Global, input: &[u8]) -> Result<Vec<Line>, AllocError>
+    ensures { λ r. ⌜ made r (λ v. vec-items v ≡ reported (now (input .entry))) ⌝ }
 {
     if input.len() > MOST_INPUT {
         return only(heap, Line::Long);
     }
-    let mut draft = Draft::start(sheet);
-    match read(&mut draft, input) {
-        Ok(used) => net_lines(heap, &draft.finish(), used, input.len()),
-        Err(fault) => {
-            let told = fault.told();
-            only(heap, Line::Net(told.number, told.byte))
-        }
-    }
+    let mut sheet = new_sheet(heap, SHEET_SIZE)?;
+    report_over(heap, &mut sheet, input)
 }

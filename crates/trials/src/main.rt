@@ -7,8 +7,6 @@ use std::alloc::Global;
 use std::error::AnyError;
 use std::fs;
 
-const SHEET_SIZE: usize = 12_352;
-
 // The value of a hex digit.
 fn digit(b: u8) -> Result<u8, AnyError> {
     match b {
@@ -69,8 +67,7 @@ fn passes(heap: Global, case: &str) -> Result<bool, AnyError> {
         return Err("a case has no lines".into());
     };
     let input = input_of(heap, hex)?;
-    let mut sheet = vec![in heap; 7u32; SHEET_SIZE]?;
-    let printed = print(heap, &report(heap, &mut sheet, &input)?)?;
+    let printed = print(heap, &report(heap, &input)?)?;
     let expected = expected_of(heap, lines)?;
     Ok(printed.as_str() == expected.as_str())
 }
