@@ -1,0 +1,10 @@
+pub mod Nets
+pub mod Nexts
+pub mod Conditions
+pub mod Taken
+pub mod Tests
+pub mod Rewrites
+pub mod Steps
+pub mod Laws
+pub mod Words
+pub mod Mistakes
