@@ -134,7 +134,7 @@ fn next_place(standing: &[bool; 64]) -> usize
 }
 
 // The flag of a place: false past the last one.
-fn flag_at(flags: &[bool; 64], p: usize) -> bool
+pub fn flag_at(flags: &[bool; 64], p: usize) -> bool
     ensures value { λ r. ⌜ r ≡ getD (now (flags .entry)) p false ⌝ }
     ensures within { λ r. ⌜ (r ≡ true → p < 64) ⌝ }
 {

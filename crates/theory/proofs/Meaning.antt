@@ -16,7 +16,7 @@ use Rattle.net.specs.States.{State, stands, in-support, mark, take, put}
 use Rattle.theory.specs.Nets.{Net}
 use Rattle.theory.specs.Nexts.{Feeder, Consumer}
 use Rattle.theory.specs.Conditions.{Dominated, Multiple, Composed, Draining, Unfed, Starved, Sourceless, Never-loses, Always-enough, Implied, Covers, Takes-from, Siphon, Dry, Takes-outside, Sufficient, Holds-support, Two-sided, Unmarked, Post-consumers, One-consumer, All-equal, Post-weights, Free-feeders, Free-consumers, Pre-feeders, Ahead, Suffices, Carries}
-use Rattle.theory.specs.Tests.{every, some, first, _implies_, dominated?, multiple?, composed?, draining?, sourceless?, unfed?, starved?, never-loses?, always-enough?, implied?, covers?, member, takes-from?, puts-into?, siphon?, dry?, outside, falls?, sufficient?, holds-support?, members-stand?, has-member?, feeder?, consumer?, two-sided?, post-consumers?, first-weight, one-consumer?, all-equal?, post-weights?, free-feeders?, free-consumers?, pre-feeders?, unmarked?, source, ahead?, suffices?, carries?}
+use Rattle.theory.specs.Tests.{every, some, first, _⇒_, dominated?, multiple?, composed?, draining?, sourceless?, unfed?, starved?, never-loses?, always-enough?, implied?, covers?, member, takes-from?, puts-into?, siphon?, dry?, outside, falls?, sufficient?, holds-support?, members-stand?, has-member?, feeder?, consumer?, two-sided?, post-consumers?, first-weight, one-consumer?, all-equal?, post-weights?, free-feeders?, free-consumers?, pre-feeders?, unmarked?, source, ahead?, suffices?, carries?}
 use Rattle.theory.specs.Steps.{in-limits?}
 use Rattle.theory.specs.Laws.{net-of, Supports}
 use Rattle.theory.specs.Words.{In-limits}

@@ -6,7 +6,7 @@ use mathlib.Core.Bool.{Bool, true, false, cond, not, _&&_, _||_}
 use mathlib.Core.Logic.{_⊎_, inl, inr, _≢_}
 use lib.Dec.{eqb, ltb, leb}
 use Rattle.std.proofs.shelf.Tests.{both-ways, cases-bool, cases-eq, cases-lt, not-true, not-false, not-from-true, not-from-false, and-parts, and-from, or-cases, or-left, or-right, leb-true, le-leb, ltb-true, lt-ltb, eqb-true, eq-eqb, eqb-false, ne-eqb}
-use Rattle.theory.specs.Tests.{every, some, first, _implies_}
+use Rattle.theory.specs.Tests.{every, some, first, _⇒_}
 
 -- The test comes out true exactly when the statement holds.
 abbrev pub Says : Bool → Type 0 → Type 0
@@ -45,7 +45,7 @@ or-says {a} {b} {P} {Q} s t = (λ e. go (or-cases a b e), back)
     back (inl x) = or-left a b (s .1 x)
     back (inr x) = or-right a b (t .1 x)
 
-pub implies-says : {a b : Bool} {P Q : Type 0} → Says a P → Says b Q → Says (a implies b) (P → Q)
+pub implies-says : {a b : Bool} {P Q : Type 0} → Says a P → Says b Q → Says (a ⇒ b) (P → Q)
 implies-says {a} {b} {P} {Q} s t = (λ e p. t .0 (go a (s .1 p) e), λ f. back a refl f)
   where
     go : (x : Bool) → x ≡ true → (not x || b) ≡ true → b ≡ true

@@ -32,6 +32,20 @@ pub data Step : Type 0 where
   fire-ahead : (t k : ℕ) → Step
   fuse-places : (p q a b : ℕ) → Step
 
+-- The number of each refusal of a step.
+abbrev pub refusal-number : Refusal → ℕ
+refusal-number NotServed = 13
+refusal-number NoTransition = 8
+refusal-number NoPlace = 9
+refusal-number NotDistinct = 14
+refusal-number Nothing = 15
+refusal-number Support = 16
+refusal-number Arcs = 17
+refusal-number Marks = 18
+refusal-number TooManyPairs = 19
+refusal-number TooManyRows = 20
+refusal-number PastLimit = 21
+
 -- Does the transition stand?
 abbrev pub there : State → ℕ → Bool
 there s t = ltb t (s .transitions)

@@ -18,7 +18,7 @@ pub data Taken (S : ℕ → Type 0) (Q : Question) (N N′ : Net) : Type 1 where
   starved : (t : N .Trans) (p : ℕ) → Never-gains N p → Starved N t p → Same-net (without N (λ v. v ≡ t)) N′ → Taken S Q N N′
   -- all other transitions are dropped beside one that is always enabled
   sourceless : (t : N .Trans) → asks-reach Q ≡ false → Sourceless N t → Same-net (without N (λ v. v ≢ t)) N′ → Taken S Q N N′
-  -- a place goes: it never lacks tokens, or another place implies it
+  -- a place goes: it never lacks tokens, or another place ⇒ it
   plentiful : (p : ℕ) → (S p → ⊥) → Never-loses N p → Always-enough N p → Same-net (gone p N) N′ → Taken S Q N N′
   implied : (p q k : ℕ) → (S p → ⊥) → q ≢ p → 1 ≤ k → Implied N p q k → Covers N p q k → Same-net (gone p N) N′ → Taken S Q N N′
   -- the transitions that take from a dry siphon are dropped

@@ -35,9 +35,9 @@ every-transition s f = every (s .transitions) f
 abbrev pub some-transition : State → (ℕ → Bool) → Bool
 some-transition s f = some (s .transitions) f
 
-infixr 25 _implies_
-abbrev pub _implies_ : Bool → Bool → Bool
-a implies b = not a || b
+infixr 25 _⇒_
+abbrev pub _⇒_ : Bool → Bool → Bool
+a ⇒ b = not a || b
 
 -- Transitions: `t` is dominated by `u`, a multiple of it, composed of `u` and `v`, draining, or without a source.
 abbrev pub dominated? : State → ℕ → ℕ → Bool
@@ -52,12 +52,12 @@ composed? s t u v =
     && (leb (take s v p) (put s u p) && eqb (put s t p + take s u p + take s v p) (put s u p + put s v p + take s t p)))
 
 abbrev pub draining? : State → ℕ → Bool
-draining? s t = every-place (λ p. leb (put s t p) (take s t p) && (in-support s p implies eqb (put s t p) (take s t p)))
+draining? s t = every-place (λ p. leb (put s t p) (take s t p) && (in-support s p ⇒ eqb (put s t p) (take s t p)))
 
 abbrev pub sourceless? : State → ℕ → Bool
 sourceless? s t = every-place (λ p. eqb (take s t p) 0)
 
--- Places: nothing puts into `p`, and `t` starves there; `p` never loses and always has enough; `q` implies it, and the mark covers.
+-- Places: nothing puts into `p`, and `t` starves there; `p` never loses and always has enough; `q` ⇒ it, and the mark covers.
 abbrev pub unfed? : State → ℕ → Bool
 unfed? s p = every-transition s (λ u. eqb (put s u p) 0)
 
@@ -88,26 +88,26 @@ abbrev pub puts-into? : State → (ℕ → Bool) → ℕ → Bool
 puts-into? s z t = some-place (λ q. z q && ltb 0 (put s t q))
 
 abbrev pub siphon? : State → (ℕ → Bool) → Bool
-siphon? s z = every-transition s (λ t. puts-into? s z t implies takes-from? s z t)
+siphon? s z = every-transition s (λ t. puts-into? s z t ⇒ takes-from? s z t)
 
 abbrev pub dry? : State → (ℕ → Bool) → Bool
-dry? s z = every-place (λ q. z q implies eqb (mark s q) 0)
+dry? s z = every-place (λ q. z q ⇒ eqb (mark s q) 0)
 
 abbrev pub outside : (ℕ → Bool) → ℕ → Bool
 outside z p = not (z p)
 
 -- In the set no positive effect, and on the support no effect.
 abbrev pub falls? : State → (ℕ → Bool) → ℕ → Bool
-falls? s z t = every-place (λ q. (z q implies leb (put s t q) (take s t q)) && (in-support s q implies eqb (put s t q) (take s t q)))
+falls? s z t = every-place (λ q. (z q ⇒ leb (put s t q) (take s t q)) && (in-support s q ⇒ eqb (put s t q) (take s t q)))
 
 abbrev pub sufficient? : State → (ℕ → Bool) → Bool
-sufficient? s z = every-transition s (λ t. takes-from? s (outside z) t implies falls? s z t)
+sufficient? s z = every-transition s (λ t. takes-from? s (outside z) t ⇒ falls? s z t)
 
 abbrev pub holds-support? : State → (ℕ → Bool) → Bool
-holds-support? s z = every-place (λ q. in-support s q implies z q)
+holds-support? s z = every-place (λ q. in-support s q ⇒ z q)
 
 abbrev pub members-stand? : State → (ℕ → Bool) → Bool
-members-stand? s z = every-place (λ q. z q implies stands s q)
+members-stand? s z = every-place (λ q. z q ⇒ stands s q)
 
 abbrev pub has-member? : (ℕ → Bool) → Bool
 has-member? z = some-place z
@@ -135,19 +135,19 @@ two-sided? s p =
 -- Post-agglomeration: the consumers' sentence, and the one on weights, by the weight of the first consumer.
 abbrev pub post-consumers? : State → ℕ → Bool
 post-consumers? s p =
-    every-transition s (λ f. consumer? s p f implies every-place (λ q. (not (eqb q p) implies eqb (take s f q) 0) && (in-support s q implies eqb (put s f q) 0)))
+    every-transition s (λ f. consumer? s p f ⇒ every-place (λ q. (not (eqb q p) ⇒ eqb (take s f q) 0) && (in-support s q ⇒ eqb (put s f q) 0)))
 
 abbrev pub first-weight : State → ℕ → ℕ
 first-weight s p = take s (first (s .transitions) (consumer? s p)) p
 
 abbrev pub one-consumer? : State → ℕ → Bool
 one-consumer? s p =
-    every-transition s (λ f. consumer? s p f implies eqb f (first (s .transitions) (consumer? s p)))
-    && every-transition s (λ h. feeder? s p h implies eqb (put s h p % first-weight s p) 0)
+    every-transition s (λ f. consumer? s p f ⇒ eqb f (first (s .transitions) (consumer? s p)))
+    && every-transition s (λ h. feeder? s p h ⇒ eqb (put s h p % first-weight s p) 0)
 
 abbrev pub all-equal? : State → ℕ → Bool
 all-equal? s p =
-    every-transition s (λ t. (consumer? s p t implies eqb (take s t p) (first-weight s p)) && (feeder? s p t implies eqb (put s t p) (first-weight s p)))
+    every-transition s (λ t. (consumer? s p t ⇒ eqb (take s t p) (first-weight s p)) && (feeder? s p t ⇒ eqb (put s t p) (first-weight s p)))
 
 abbrev pub post-weights? : State → ℕ → Bool
 post-weights? s p = one-consumer? s p || all-equal? s p
@@ -155,16 +155,16 @@ post-weights? s p = one-consumer? s p || all-equal? s p
 -- Free and pre-agglomeration: the feeders' sentences, and the consumers'.
 abbrev pub free-feeders? : State → ℕ → Bool
 free-feeders? s p =
-    every-transition s (λ h. feeder? s p h implies (eqb (put s h p) 1
-    && every-place (λ q. (not (eqb q p) implies eqb (put s h q) 0) && (in-support s q implies eqb (take s h q) 0))))
+    every-transition s (λ h. feeder? s p h ⇒ (eqb (put s h p) 1
+    && every-place (λ q. (not (eqb q p) ⇒ eqb (put s h q) 0) && (in-support s q ⇒ eqb (take s h q) 0))))
 
 abbrev pub free-consumers? : State → ℕ → Bool
-free-consumers? s p = every-transition s (λ f. consumer? s p f implies eqb (take s f p) 1)
+free-consumers? s p = every-transition s (λ f. consumer? s p f ⇒ eqb (take s f p) 1)
 
 abbrev pub pre-feeders? : State → ℕ → Bool
 pre-feeders? s p =
-    every-transition s (λ h. feeder? s p h implies (some-place (λ q. ltb 0 (take s h q))
-    && every-place (λ q. ltb 0 (take s h q) implies every-transition s (λ u. ltb 0 (take s u q) implies eqb u h))))
+    every-transition s (λ h. feeder? s p h ⇒ (some-place (λ q. ltb 0 (take s h q))
+    && every-place (λ q. ltb 0 (take s h q) ⇒ every-transition s (λ u. ltb 0 (take s u q) ⇒ eqb u h))))
 
 abbrev pub unmarked? : State → ℕ → Bool
 unmarked? s p = eqb (mark s p) 0
@@ -176,10 +176,10 @@ source s t = first 64 (λ p. ltb 0 (take s t p))
 abbrev pub ahead? : State → ℕ → Bool
 ahead? s t =
     ltb (source s t) 64
-    && (every-place (λ q. not (eqb q (source s t)) implies eqb (take s t q) 0)
-    && (every-transition s (λ u. ltb 0 (take s u (source s t)) implies eqb u t)
+    && (every-place (λ q. not (eqb q (source s t)) ⇒ eqb (take s t q) 0)
+    && (every-transition s (λ u. ltb 0 (take s u (source s t)) ⇒ eqb u t)
     && (eqb (put s t (source s t)) 0
-    && (every-place (λ q. in-support s q implies eqb (put s t q) 0) && not (in-support s (source s t))))))
+    && (every-place (λ q. in-support s q ⇒ eqb (put s t q) 0) && not (in-support s (source s t))))))
 
 abbrev pub suffices? : State → ℕ → ℕ → Bool
 suffices? s t k = leb (k * take s t (source s t)) (mark s (source s t))
@@ -189,4 +189,4 @@ abbrev pub carries? : State → ℕ → ℕ → ℕ → Bool
 carries? s a p q =
     eqb (take s a p) 1
     && (eqb (put s a q) 1
-    && every-place (λ r. (not (eqb r p) implies eqb (take s a r) 0) && (not (eqb r q) implies eqb (put s a r) 0)))
+    && every-place (λ r. (not (eqb r p) ⇒ eqb (take s a r) 0) && (not (eqb r q) ⇒ eqb (put s a r) 0)))
