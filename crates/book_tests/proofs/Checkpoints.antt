@@ -27,7 +27,7 @@ kept-self s q =
       question = refl;
       standing = q .supported;
       qualities = q;
-      law = record { reach = λ _ v. (λ x. x, λ x. x); standstill = λ _ v. (λ x. x, λ x. x) }
+      law = record { reach = λ _ v. (λ x. x, λ x. x); standstill = λ _ v. (λ x. x, λ x. x) };
     }
 
 after-ok : {E F : Type 0} (f : E → F) (r : Result Unit E) (k : Result State F) (t : State) → after f r k ≡ Ok t → k ≡ Ok t
@@ -40,11 +40,12 @@ checkpoint-keeps s t bs q h =
     subst (Kept s) (k .1) (kept-self s q)
 
 pub checkpoint-refuses : Refuses-misfits checkpoint-number checkpoint-width checkpoint-taken
-checkpoint-refuses s bs e z h =
-    (Bytes e,
-     ap (λ (b : Bool). after Net (cond b (Ok tt) (Err WrongSize)) (after Bytes (framed checkpoint-width bs) rest)) z
-     ∙ ap (λ (r : Result Unit Misfit). after Bytes r rest) h,
-     refl)
+checkpoint-refuses s bs e z h = (
+  Bytes e,
+  ap (λ (b : Bool). after Net (cond b (Ok tt) (Err WrongSize)) (after Bytes (framed checkpoint-width bs) rest)) z
+      ∙ ap (λ (r : Result Unit Misfit). after Bytes r rest) h,
+  refl,
+)
   where
     rest : Result State CheckpointFault
     rest = judged (checkpoint-table s (one bs 1) (two bs 2)) s
