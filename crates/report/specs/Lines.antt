@@ -3,7 +3,7 @@ use Prim.Native.Nat.{ℕ, zero, suc, _+_}
 use mathlib.Core.Bool.{Bool, cond}
 use mathlib.Core.List.{List, [], _∷_, _++_}
 use lib.Dec.{eqb, ltb}
-use lib.ListN.{length}
+use lib.ListN.{length, drop}
 use Rattle.std.specs.declared.result.Result.{Result}
 use Rattle.std.specs.declared.result.Result.the-variants.{Ok, Err}
 use Rattle.net.specs.declared.net.Look.{Look}
@@ -14,6 +14,12 @@ use Rattle.net.specs.Looks.{looked}
 use Rattle.stream.specs.declared.faults.ReadFault.{ReadFault}
 use Rattle.stream.specs.Faults.{read-told}
 use Rattle.stream.specs.Streams.{Reading, reading}
+use Rattle.basics.specs.declared.faults.BasicFault.{BasicFault}
+use Rattle.basics.specs.Basics.{basic-width, basic-taken}
+use Rattle.basics.specs.Faults.{basic-number}
+use Rattle.session.specs.declared.faults.SessionFault.{SessionFault}
+use Rattle.session.specs.Faults.{session-told}
+use Rattle.session.specs.Feeds.{Meaning, meaning, End, fed}
 use Rattle.report.specs.declared.line.Line.{Line}
 use Rattle.report.specs.declared.line.Line.the-variants.{Long, Net, Taken, Refused, Place, Take, Put}
 use Rattle.report.specs.declared.line.Side.{Side}
@@ -62,18 +68,27 @@ arc-lines s = below (s .transitions) (λ t. transition-lines s t)
 abbrev pub net-lines : State → List Line
 net-lines s = place-lines s ++ arc-lines s
 
--- No step is taken: bytes behind the net stream are refused, since nobody owns their first.
-abbrev pub step-lines : ℕ → ℕ → List Line
-step-lines used all = Taken 0 ∷ cond (ltb used all) (Refused 3 used ∷ []) []
+-- The steps behind the net: how many were taken and, where one was refused, its number and the byte of the input where it starts.
+abbrev pub step-lines : ℕ → Result ℕ (SessionFault BasicFault) → List Line
+step-lines used (Ok n) = Taken n ∷ []
+step-lines used (Err f) = Taken (f .count) ∷ Refused (session-told basic-number f .number) (used + f .byte) ∷ []
+
+-- Then the net that stands.
+abbrev pub end-lines : ℕ → End BasicFault → List Line
+end-lines used e = step-lines used (e .said) ++ net-lines (e .state)
+
+-- The bytes behind the net stream are fed to a session with the house book.
+abbrev pub house : Meaning BasicFault
+house = meaning basic-width basic-taken
 
 -- A refused net has one line: the number of the refusal, and the byte where the refused command starts.
 abbrev pub fault-line : ReadFault → Line
 fault-line f = Net (read-told f .number) (read-told f .byte)
 
-abbrev pub reading-lines : Result Reading ReadFault → ℕ → List Line
-reading-lines (Ok r) all = step-lines (r .used) all ++ net-lines (r .state)
-reading-lines (Err f) all = fault-line f ∷ []
+abbrev pub reading-lines : Result Reading ReadFault → List ℕ → List Line
+reading-lines (Ok r) bs = end-lines (r .used) (fed house (r .state) (drop (r .used) bs))
+reading-lines (Err f) bs = fault-line f ∷ []
 
 -- The lines for an input.
 abbrev pub reported : List ℕ → List Line
-reported bs = cond (ltb most-input (length bs)) (Long ∷ []) (reading-lines (reading bs) (length bs))
+reported bs = cond (ltb most-input (length bs)) (Long ∷ []) (reading-lines (reading bs) bs)

@@ -1,25 +1,33 @@
 // From input bytes to the lines that the program prints.
 ghost use mathlib.Core.Path.{_≡_};
 ghost use mathlib.Core.List.{List, _++_, _∷_, []};
-ghost use Prim.Native.Nat.{ℕ, _+_, _*_, _<_, _≤_};
-ghost use lib.ListN.{length};
+ghost use Prim.Native.Nat.{ℕ, _+_, _-_, _*_, _<_, _≤_};
+ghost use lib.ListN.{length, drop};
 ghost use Rattle.std.specs.Of.String.{string-bytes};
 ghost use Rattle.std.specs.Of.Vec.{vec-items, vec-len};
 ghost use Rattle.std.specs.Vec.{made};
 ghost use Rattle.net.specs.declared.net.Look.the-variants.{Mark};
 ghost use Rattle.net.specs.Looks.{looked};
 ghost use Rattle.net.specs.States.{view};
+ghost use Rattle.session.specs.Views.{opened};
+ghost use Rattle.session.specs.Feeds.{fed, Place-within};
 ghost use Rattle.stream.specs.Streams.{reading};
-ghost use Rattle.report.specs.Lines.{shown-place, shown-arc, place-lines, side-look, side-line, side-lines, transition-lines, arc-lines, net-lines, step-lines, fault-line, reading-lines, reported};
+ghost use Rattle.report.specs.Lines.{shown-place, shown-arc, place-lines, side-look, side-line, side-lines, transition-lines, arc-lines, step-lines, end-lines, house, fault-line, reading-lines, reported};
 ghost use Rattle.report.specs.Texts.{text, ended-line, printed};
 
 mod line;
 
+use basics::BasicFault;
+use basics::BasicFaultNumbered;
+use basics::Basics;
+use basics::BasicsBook;
 pub use line::Line;
 use line::Side;
 use net::Draft;
 use net::Look;
 use net::Net;
+use session::Session;
+use session::SessionFault;
 use std::alloc::AllocError;
 use std::alloc::Global;
 use stream::ReadFault;
@@ -158,17 +166,43 @@ pub fn print(heap: Global, lines: &[Line]) -> Result<String, AllocError>
     Ok(out)
 }
 
-// The lines for a net that was read from the first bytes of an input.
-fn net_lines(heap: Global, net: &Net<'_>, used: usize, all: usize) -> Result<Vec<Line>, AllocError>
-    ensures { λ r. ⌜ made r (λ v. vec-items v ≡ step-lines used all ++ net-lines (view (now (net .entry)))) ⌝ }
+// The lines of the steps that were fed from the given byte of an input on.
+fn step_lines(
+    lines: &mut Vec<Line>,
+    used: usize,
+    said: Result<usize, SessionFault<BasicFault>>,
+    all: usize,
+) -> Result<(), AllocError>
+    requires { ⌜ Place-within said (all - used) ⌝ }
+    requires { ⌜ used ≤ all ⌝ }
+    ensures { λ r. ⌜ made r (λ _. vec-items (now (lines .exit)) ≡ vec-items (now (lines .entry)) ++ step-lines used said) ⌝ }
 {
-    let mut lines = Vec::new(heap);
-    lines.push(Line::Taken(0))?;
-    if used < all {
-        lines.push(Line::Refused(3, used))?;
+    match said {
+        Ok(count) => lines.push(Line::Taken(count))?,
+        Err(fault) => {
+            let told = fault.told();
+            lines.push(Line::Taken(told.count))?;
+            lines.push(Line::Refused(told.number, used + told.byte))?;
+        }
     }
-    place_lines(&mut lines, net)?;
-    arc_lines(&mut lines, net)?;
+    Ok(())
+}
+
+// The lines for a net that was read from the first bytes of an input: the steps behind it are fed to a session.
+fn session_lines(
+    heap: Global,
+    session: &mut Session<'_>,
+    input: &[u8],
+    used: usize,
+) -> Result<Vec<Line>, AllocError>
+    requires { ⌜ used ≤ length (now input) ⌝ }
+    ensures { λ r. ⌜ made r (λ v. vec-items v ≡ end-lines used (fed house (opened (now (session .entry))) (drop used (now (input .entry))))) ⌝ }
+{
+    let said = session.feed(&Basics, &input[used..]);
+    let mut lines = Vec::new(heap);
+    step_lines(&mut lines, used, said, input.len())?;
+    place_lines(&mut lines, session.net())?;
+    arc_lines(&mut lines, session.net())?;
     Ok(lines)
 }
 
@@ -196,14 +230,14 @@ fn new_sheet(heap: Global, n: usize) -> Result<Vec<u32>, AllocError>
     vec![in heap; 0u32; n]
 }
 
-// The lines to print for an input: reads a net from its front, over a sheet of the size of a net's sheet.
+// The lines to print for an input: reads a net from its front and feeds the rest to a session, over a sheet of the size of a net's sheet.
 fn report_over(heap: Global, sheet: &mut [u32], input: &[u8]) -> Result<Vec<Line>, AllocError>
     requires { ⌜ length (now sheet) ≡ 12352 ⌝ }
-    ensures { λ r. ⌜ made r (λ v. vec-items v ≡ reading-lines (reading (now (input .entry))) (length (now (input .entry)))) ⌝ }
+    ensures { λ r. ⌜ made r (λ v. vec-items v ≡ reading-lines (reading (now (input .entry))) (now (input .entry))) ⌝ }
 {
     let mut draft = Draft::start(sheet);
     match read(&mut draft, input) {
-        Ok(used) => net_lines(heap, &draft.finish(), used, input.len()),
+        Ok(used) => session_lines(heap, &mut Session::open(draft), input, used),
         Err(fault) => only(heap, fault_line(fault)),
     }
 }

@@ -1,3 +1,4 @@
 pub mod Filling
 pub mod Reading
 pub mod Writing
+pub mod Uses

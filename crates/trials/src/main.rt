@@ -90,6 +90,7 @@ fn run_table(rt: &LibcRuntime, name: &str) -> Result<(), AnyError> {
 
 fn run(rt: &LibcRuntime) -> Result<(), AnyError> {
     run_table(rt, "limits.tsv")?;
+    run_table(rt, "steps.tsv")?;
     run_table(rt, "vectors.tsv")
 }
 

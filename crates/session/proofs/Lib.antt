@@ -1,0 +1,4 @@
+pub mod Sounds
+pub mod Feeds
+pub mod Faithful
+pub mod Places

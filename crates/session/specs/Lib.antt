@@ -1,0 +1,4 @@
+pub mod Faults
+pub mod Views
+pub mod Feeds
+pub mod Calls
