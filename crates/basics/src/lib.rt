@@ -1,4 +1,6 @@
 // The first house book: steps that drop one transition, keep one, or remove one place.
+#![tactic(auto)]
+
 ghost use Rattle.std.specs.Prelude.{◌≡◌, ℕ, ◌+◌, ◌*◌, ◌<◌, true, false, not, if◌then◌else◌, nat_eq, slice_index_or, refl};
 ghost use Rattle.net.specs.Refusals.{judged};
 ghost use Rattle.net.specs.States.{view, sized, stands, Answered};

@@ -1,4 +1,6 @@
 // Reads a net stream from standard input and prints the net: a thin program over the library.
+#![tactic(auto)]
+
 use report::{print, report};
 use std::io::Read;
 

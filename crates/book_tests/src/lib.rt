@@ -1,4 +1,6 @@
 // A customer's book, and examples of books as tests. Expected values are worked out by hand.
+#![tactic(auto)]
+
 pub mod checkpoint;
 
 #[cfg(test)]

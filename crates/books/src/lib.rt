@@ -1,4 +1,6 @@
 // A rule book: an interface with two calls, what they mean, and the law that the meaning keeps.
+#![tactic(auto)]
+
 ghost use Rattle.std.specs.Prelude.{◌≡◌, ℕ, ◌+◌, ◌≤◌, List, length, Ok, Err, Option, Result, slice_index};
 ghost use Rattle.net.specs.Qualities.{Qualities};
 ghost use Rattle.net.specs.States.{State, view, Answered};

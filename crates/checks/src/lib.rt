@@ -1,4 +1,6 @@
 // Reads of a net, and tests of its places and transitions, for the rules of books. All are total: they answer on every net.
+#![tactic(auto)]
+
 ghost use Rattle.std.specs.Prelude.{◌≡◌, ℕ, ◌+◌, ◌*◌, ◌<◌, ◌≤◌, Bool, false, not, length, slice_index, slice_index_or};
 ghost use Rattle.net.specs.States.{State, view, stands, in_support, mark, take, put};
 ghost use Rattle.theory.specs.Nets.{asks_standstill};

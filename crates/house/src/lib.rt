@@ -1,4 +1,6 @@
 // The four house books joined in their order: each judges the steps whose first byte it owns.
+#![tactic(auto)]
+
 ghost use Rattle.house.specs.House.{JudgesSteps, TakesSteps};
 
 pub use basics::BasicFault;

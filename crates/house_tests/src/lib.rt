@@ -1,4 +1,6 @@
 // Examples of steps judged by the house book. Expected values are worked out by hand.
+#![tactic(auto)]
+
 #[cfg(test)]
 mod tests {
     use books::Book;

@@ -1,4 +1,6 @@
 // The third house book: agglomerations, which merge the feeders and the consumers of a place.
+#![tactic(auto)]
+
 ghost use Rattle.std.specs.Prelude.{◌≡◌, ℕ, true, refl};
 ghost use Rattle.net.specs.Refusals.{judged, Passes};
 ghost use Rattle.net.specs.States.{view, sized, Answered};

@@ -1,4 +1,6 @@
 // The fourth house book: tokens are moved by firings ahead of time, or by fusing two places.
+#![tactic(auto)]
+
 ghost use Rattle.std.specs.Prelude.{◌≡◌, ℕ, ◌+◌, ◌*◌, ◌<◌, ◌≤◌, true, false, length, ◌==◌, ◌≢◌, slice_index, refl};
 ghost use Rattle.net.specs.Refusals.{judged};
 ghost use Rattle.net.specs.States.{view, sized, stands, Answered};

@@ -1,4 +1,6 @@
 // The net on a lent sheet: the draft that fills it, and the readings of it.
+#![tactic(auto)]
+
 ghost use Rattle.std.specs.Prelude.{◌≡◌, ℕ, ◌+◌, ◌*◌, ◌<◌, ◌≤◌, Bool, true, false, List, [], length, Ok, Err, Result, slice_index_or};
 ghost use Rattle.net.specs.declared.net.Look.TheVariants.{Mark, Take, Put, Support};
 ghost use Rattle.net.specs.Sheets.{sheet_of};

@@ -1,4 +1,6 @@
 // Examples of drafts, looks and readings. Expected values are worked out by hand.
+#![tactic(auto)]
+
 #[cfg(test)]
 mod tests {
     use net::{Draft, Layer, Look, Net, NetFault, measure};

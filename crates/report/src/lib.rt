@@ -1,4 +1,6 @@
 // From input bytes to the lines that the program prints.
+#![tactic(auto)]
+
 ghost use Rattle.std.specs.Prelude.{◌≡◌, ℕ, ◌+◌, ◌-◌, ◌*◌, ◌<◌, ◌≤◌, List, [], ◌∷◌, ◌++◌, length, drop, IfOk, vec_len, string_bytes, OnOk};
 ghost use Rattle.net.specs.declared.net.Look.TheVariants.{Mark};
 ghost use Rattle.net.specs.Looks.{looked};

@@ -1,4 +1,6 @@
 // Rewrites of a net in place: transitions are dropped and the list closes up, places go, and marks change.
+#![tactic(auto)]
+
 ghost use Rattle.std.specs.Prelude.{◌≡◌, ℕ, ◌+◌, ◌*◌, ◌%◌, ◌<◌, ◌≤◌, true, false, ◌&&◌, length, get_or, if◌then◌else◌, Ok, nat_eq, slice_index, slice_index_or};
 ghost use Rattle.net.specs.Looks.{measured, sheet_checks, place_checks, place_checked};
 ghost use Rattle.net.specs.Refusals.{judged};

@@ -1,4 +1,6 @@
 // A session: a drafted net is opened, reduced by the steps of a book, looked at, and closed.
+#![tactic(auto)]
+
 ghost use Rattle.std.specs.Prelude.{◌≡◌, ◌+◌, ◌<◌, true, length, Ok, Err, Result};
 ghost use Rattle.net.specs.States.{view, sized, Answered};
 ghost use Rattle.net.specs.Views.{drafted};

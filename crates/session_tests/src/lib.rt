@@ -1,4 +1,6 @@
 // Examples of sessions over the first house book. Expected values are worked out by hand.
+#![tactic(auto)]
+
 #[cfg(test)]
 mod tests {
     use basics::{BasicFault, Basics};

@@ -1,4 +1,6 @@
 // The second house book: steps that name a set of places.
+#![tactic(auto)]
+
 ghost use Rattle.std.specs.Prelude.{◌≡◌, ℕ, true, length, refl};
 ghost use Rattle.net.specs.Refusals.{judged};
 ghost use Rattle.net.specs.States.{view, sized, Answered};

@@ -1,4 +1,6 @@
 // The reader of net streams: one-byte commands with operands, the most significant byte first.
+#![tactic(auto)]
+
 ghost use Rattle.std.specs.Prelude.{◌≡◌, ℕ, ◌+◌, ◌*◌, ◌<◌, ◌≤◌, true, length, Option, Result};
 ghost use Rattle.net.specs.Refusals.{Passes};
 ghost use Rattle.net.specs.States.{State, sized, Answered};

@@ -1,4 +1,6 @@
 // Each function stands for a theorem, and computes nothing.
+#![tactic(auto)]
+
 ghost use Rattle.theory.specs.Laws.{StepsAreLawful};
 ghost use Rattle.theory.specs.Mistakes.{FactorZeroInventsAStandstill, SplitTokensAreLost, DroppedMovesInventAStandstill};
 ghost use Rattle.theory.specs.Words.{StepsAreExact};

@@ -1,6 +1,8 @@
 // Runs tables of cases through the report and compares what it prints, line by line.
 // A line of a table has a name, the input in hex, and the expected lines joined by semicolons, with tabs between. The input is
 // written in groups with spaces between; a group may be repeated, as 00x16.
+#![tactic(auto)]
+
 use anyhow::anyhow;
 use report::{print, report};
 use std::alloc::Global;

@@ -5,6 +5,6 @@ use Rattle.basics.proofs.drop_transition.Goals as goal
 
 pub returns : goal.returns
 returns c =
-    done _ (view c.keep-transitions.new.net) (view c.args.net.now) _ c.requires c.keep-transitions.ensures
-    ∙ keeping_same (λ i. get_or c.flags-for.result i false) (λ v. not (eqb v c.args.t)) (view c.args.net.now)
-    (λ i h. c.flags-for.ensures i (omega (arith, c.args.net.now.shape.few)) ∙ but_one (eqb i c.args.t))
+    done _ (view c.keep_transitions.new.net) (view c.args.net.now) _ c.requires c.keep_transitions.ensures
+    ∙ keeping_same (λ i. get_or c.flags_for.result i false) (λ v. not (eqb v c.args.t)) (view c.args.net.now)
+    (λ i h. c.flags_for.ensures i (omega (arith, c.args.net.now.shape.few)) ∙ but_one (eqb i c.args.t))

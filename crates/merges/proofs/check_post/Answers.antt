@@ -9,10 +9,10 @@ use Rattle.merges.specs.Merges.{first_lines, last_lines}
 use Rattle.merges.proofs.Judging.{first_refused}
 use Rattle.merges.proofs.check_post.Goals as goal
 
-pub returns-in-err-check-place : goal.returns-in-err-check-place
-returns-in-err-check-place c =
-    let e = err_from_is_err_and c.from-residual.result c.from-residual.ensures.1 in
+pub returns-in_err-check_place : goal.returns-in_err-check_place
+returns-in_err-check_place c =
+    let e = err_from_is_err_and c.from_residual.result c.from_residual.ensures.1 in
     first_refused (first_lines (view c.args.net.now) c.args.p)
     (Arcs unless post_consumers? (view c.args.net.now) c.args.p ∷ Arcs unless post_weights? (view c.args.net.now) c.args.p
     ∷ last_lines (view c.args.net.now) c.args.p (post_row (view c.args.net.now) c.args.p))
-    c.from-residual.result e.0 _ e.1 e.2 c.in-err-check-place.ensures
+    c.from_residual.result e.0 _ e.1 e.2 c.in_err-check_place.ensures

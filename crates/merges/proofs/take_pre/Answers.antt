@@ -6,12 +6,12 @@ use Rattle.theory.specs.Steps.{table, pre_agglomerate}
 use Rattle.books.proofs.Housing.{check_refused}
 use Rattle.merges.proofs.take_pre.Goals as goal
 
-pub returns-in-err-check-pre : goal.returns-in-err-check-pre
-returns-in-err-check-pre c =
-    let e = err_from_is_err_and c.from-residual.result c.from-residual.ensures.1 in
+pub returns-in_err-check_pre : goal.returns-in_err-check_pre
+returns-in_err-check_pre c =
+    let e = err_from_is_err_and c.from_residual.result c.from_residual.ensures.1 in
     check_refused (table (view c.args.net.now) (pre_agglomerate c.args.p)) _ (view c.args.net.now)
-    c.from-residual.result e.0 _ e.1 e.2 c.in-err-check-pre.ensures
+    c.from_residual.result e.0 _ e.1 e.2 c.in_err-check_pre.ensures
 
-pub merge-products-requires : goal.merge-products-requires
-merge-products-requires c =
-    (c.requires, (passed (table (view c.args.net.now) (pre_agglomerate c.args.p)) tt tt (sym c.in-ok-check-pre.ensures)).0.1.1.1.1.1.1)
+pub merge_products-requires : goal.merge_products-requires
+merge_products-requires c =
+    (c.requires, (passed (table (view c.args.net.now) (pre_agglomerate c.args.p)) tt tt (sym c.in_ok-check_pre.ensures)).0.1.1.1.1.1.1)

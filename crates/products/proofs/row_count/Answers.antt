@@ -4,5 +4,5 @@ use Rattle.products.proofs.row_count.Goals as goal
 
 pub returns : goal.returns
 returns c product =
-    merged_count product c.args.p (view c.args.net.now) c.count-transitions.result c.pair-count.result c.count-transitions.ensures.count
-    c.pair-count.ensures.count
+    merged_count product c.args.p (view c.args.net.now) c.count_transitions.result c.pair_count.result c.count_transitions.ensures.count
+    c.pair_count.ensures.count

@@ -12,8 +12,8 @@ loop-f-init c =
     listed_none (consumer? (view c.args.net.now) c.args.p) (product_row c.args.kind (view c.args.net.now) c.args.p c.args.h)
     c.args.rows.now c.args.from
 
-pub write-product-at-requires : goal.write-product-at-requires
-write-product-at-requires c =
+pub write_product-at-requires : goal.write_product-at-requires
+write_product-at-requires c =
     let consumes : consumer? (view c.args.net.now) c.args.p c.loop-f.f ≡ true = sym c.test.ensures ∙ c.if-test.true in (
       listed_room (consumer? (view c.args.net.now) c.args.p) (product_row c.args.kind (view c.args.net.now) c.args.p c.args.h)
           c.args.rows.now c.args.from c.loop-f.rows c.loop-f.f c.loop-f.at c.loop-f.invariant c.args.net.now.shape.transitions
@@ -24,9 +24,9 @@ write-product-at-requires c =
 pub loop-f-preserved : goal.loop-f-preserved
 loop-f-preserved c =
     elim c.if-test.branch [
-      | then-test w ↦ subst₂ After (sym w.rows-is) (sym (w.at-is ∙ w.write-product-at.ensures.next))
+      | then-test w ↦ subst₂ After (sym w.rows-is) (sym (w.at-is ∙ w.write_product-at.ensures.next))
           (listed_kept keep row c.args.rows.now c.args.from c.loop-f.rows c.loop-f.f c.loop-f.at c.loop-f.invariant
-          w.write-product-at.new.rows (sym c.test.ensures ∙ w.if-test.true) w.write-product-at.ensures.before w.write-product-at.ensures.row)
+          w.write_product-at.new.rows (sym c.test.ensures ∙ w.if-test.true) w.write_product-at.ensures.before w.write_product-at.ensures.row)
       | else-test w ↦ subst₂ After (sym w.rows-is) (sym w.at-is)
           (listed_left keep row c.args.rows.now c.args.from c.loop-f.rows c.loop-f.f c.loop-f.at c.loop-f.invariant
           (sym c.test.ensures ∙ w.if-test.false))

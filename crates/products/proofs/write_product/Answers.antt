@@ -9,4 +9,4 @@ loop-q-init c = written_none c.args.rows.now (pair_row c.args.pair.now (view c.a
 pub loop-q-preserved : goal.loop-q-preserved
 loop-q-preserved c =
     written_more c.args.rows.now c.loop-q.rows (pair_row c.args.pair.now (view c.args.net.now)) c.args.at c.loop-q.q
-    c.requires.0 c.loop-q-test.true c.loop-q.invariant c.product-take.result c.product-put.result c.product-take.ensures c.product-put.ensures
+    c.requires.0 c.loop-q-test.true c.loop-q.invariant c.product_take.result c.product_put.result c.product_take.ensures c.product_put.ensures

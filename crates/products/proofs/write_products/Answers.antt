@@ -8,8 +8,8 @@ use Rattle.products.proofs.Crossing.{crossed_room, crossed_left, crossed_kept}
 use Rattle.products.proofs.write_products.Goals as goal
 use Rattle.products.proofs.write_products.Goals.{then-test, else-test}
 
-pub write-feeder-at-requires : goal.write-feeder-at-requires
-write-feeder-at-requires c =
+pub write_feeder-at-requires : goal.write_feeder-at-requires
+write_feeder-at-requires c =
     let feeds : feeder? (view c.args.net.now) c.args.p c.loop-h.h ≡ true = sym c.test.ensures ∙ c.if-test.true in (
       crossed_room (feeder? (view c.args.net.now) c.args.p) (product_row c.args.kind (view c.args.net.now) c.args.p)
           (consumers (view c.args.net.now) c.args.p) c.loop-h.rows c.loop-h.h c.loop-h.at c.loop-h.invariant
@@ -23,7 +23,7 @@ loop-h-preserved c =
       | then-test w ↦ subst₂ After (sym w.rows-is) (sym w.at-is)
           (crossed_kept feeds product taken c.loop-h.rows c.loop-h.h c.loop-h.at c.loop-h.invariant
           (consumer? (view c.args.net.now) c.args.p) c.args.net.now.shape.transitions refl
-          w.write-feeder-at.new.rows w.write-feeder-at.result (sym c.test.ensures ∙ w.if-test.true) w.write-feeder-at.ensures)
+          w.write_feeder-at.new.rows w.write_feeder-at.result (sym c.test.ensures ∙ w.if-test.true) w.write_feeder-at.ensures)
       | else-test w ↦ subst₂ After (sym w.rows-is) (sym w.at-is)
           (crossed_left feeds product taken c.loop-h.rows c.loop-h.h c.loop-h.at c.loop-h.invariant (sym c.test.ensures ∙ w.if-test.false))
     ]

@@ -5,4 +5,4 @@ pub loop-t-init : goal.loop-t-init
 loop-t-init c = below_none _ _
 
 pub loop-t-preserved : goal.loop-t-preserved
-loop-t-preserved c = below_more _ _ _ c.loop-t.t _ c.loop-t.invariant c.in-ok-transition-lines.ensures
+loop-t-preserved c = below_more _ _ _ c.loop-t.t _ c.loop-t.invariant c.in_ok-transition_lines.ensures

@@ -5,5 +5,5 @@ use Rattle.report.proofs.print_line.Goals as goal
 
 pub returns : goal.returns
 returns c =
-    pushed_line _ _ _ (text c.args.line) c.as-str.result.now _ (c.as-str.ensures.value ∙ c.in-ok-text.ensures)
-    c.in-ok-push-str.ensures.bytes c.in-ok-push.ensures.bytes (c.in-ok-push.ensures.ascii (omega arith))
+    pushed_line _ _ _ (text c.args.line) c.as_str.result.now _ (c.as_str.ensures.value ∙ c.in_ok-text.ensures)
+    c.in_ok-push_str.ensures.bytes c.in_ok-push.ensures.bytes (c.in_ok-push.ensures.ascii (omega arith))

@@ -7,6 +7,6 @@ returns-in-Err c =
     let e = refused_reading c.args.sheet.now c.args.input.now (drafted c.start-draft.result) (drafted c.read.new.draft) c.in-Err.fault c.requires c.start-draft.ensures.drafted c.in-Err.ensures.exact in
     rw e (rw c.fault_line.ensures at c.only.ensures)
 
-pub session-lines-requires : goal.session-lines-requires
-session-lines-requires c =
+pub session_lines-requires : goal.session_lines-requires
+session_lines-requires c =
     (taken_reading c.args.sheet.now c.args.input.now (drafted c.start-draft.result) (drafted c.read.new.draft) c.in-Ok.used c.requires c.start-draft.ensures.drafted c.in-Ok.ensures.exact).within

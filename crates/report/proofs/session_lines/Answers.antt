@@ -12,5 +12,5 @@ returns c =
     let k : FeedAnswered c.feed-said.result (opened c.feed-said.new.self) (fed house (opened c.args.session.now) bs)
     = rw (lent house c.args.input.now c.args.used) at c.feed-said.ensures.exact in
     all_lines _ _ _ _ c.args.used c.feed-said.result _ _ (fed house (opened c.args.session.now) bs) c.new-lines.ensures.items
-    c.in-ok-step-lines.ensures c.in-ok-place-lines.ensures c.in-ok-arc-lines.ensures k.answer
+    c.in_ok-step_lines.ensures c.in_ok-place_lines.ensures c.in_ok-arc_lines.ensures k.answer
     (c.net.ensures ∙ k.state) (c.net-2.ensures ∙ k.state)

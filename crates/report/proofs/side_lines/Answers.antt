@@ -5,4 +5,4 @@ pub loop-p-init : goal.loop-p-init
 loop-p-init c = below_none _ _
 
 pub loop-p-preserved : goal.loop-p-preserved
-loop-p-preserved c = below_more _ _ _ c.loop-p.p _ c.loop-p.invariant c.in-ok-arc-line.ensures
+loop-p-preserved c = below_more _ _ _ c.loop-p.p _ c.loop-p.invariant c.in_ok-arc_line.ensures

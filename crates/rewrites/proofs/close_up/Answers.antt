@@ -14,8 +14,8 @@ loop-t-preserved c =
       | then-keep-t w ↦ (
         omega (arith, w.to-is, c.loop-t.invariant.0),
         subst₂ After (sym w.sheet-is) (sym w.to-is)
-            (closed_kept keep c.args.sheet.now c.loop-t.sheet c.loop-t.t c.loop-t.to c.loop-t.invariant.1 w.copy-row.new.sheet
-            w.if-keep-t.true c.loop-t.invariant.0 w.copy-row.ensures.row w.copy-row.ensures.before w.copy-row.ensures.after),
+            (closed_kept keep c.args.sheet.now c.loop-t.sheet c.loop-t.t c.loop-t.to c.loop-t.invariant.1 w.copy_row.new.sheet
+            w.if-keep-t.true c.loop-t.invariant.0 w.copy_row.ensures.row w.copy_row.ensures.before w.copy_row.ensures.after),
       )
       | else-keep-t w ↦ (
         omega (arith, w.to-is, c.loop-t.invariant.0),

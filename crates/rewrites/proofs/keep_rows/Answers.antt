@@ -5,12 +5,12 @@ use Rattle.rewrites.proofs.keep_rows.Goals as goal
 pub returns : goal.returns
 returns c =
     record {
-      few = c.close-up-kept.ensures.few;
+      few = c.close_up-kept.ensures.few;
       count =
-          closed_count (λ t. get_or c.args.keep.now t false) c.args.sheet.now c.close-up-kept.new.sheet c.args.n
-          c.close-up-kept.result c.close-up-kept.ensures.closed;
+          closed_count (λ t. get_or c.args.keep.now t false) c.args.sheet.now c.close_up-kept.new.sheet c.args.n
+          c.close_up-kept.result c.close_up-kept.ensures.closed;
       sheet =
-          closed_all (λ t. get_or c.args.keep.now t false) c.args.sheet.now c.close-up-kept.new.sheet c.args.n
-          c.close-up-kept.result c.close-up-kept.ensures.closed c.wipe-from.new.sheet (omega arith) c.wipe-from.ensures.before
-          (λ i a b. c.wipe-from.ensures.after i a (omega arith));
+          closed_all (λ t. get_or c.args.keep.now t false) c.args.sheet.now c.close_up-kept.new.sheet c.args.n
+          c.close_up-kept.result c.close_up-kept.ensures.closed c.wipe_from.new.sheet (omega arith) c.wipe_from.ensures.before
+          (λ i a b. c.wipe_from.ensures.after i a (omega arith));
     }

@@ -10,6 +10,6 @@ returns c =
     record {
       count = sym (length_changed (inside (member c.args.set.now)) c.args.n c.args.sheet.now);
       sheet =
-          limited_all (member c.args.set.now) c.args.n c.args.sheet.now c.clear-outside.new.sheet c.wipe-from.new.sheet
-          c.clear-outside.ensures (omega arith) c.wipe-from.ensures.before (λ i a b. c.wipe-from.ensures.after i a (omega arith));
+          limited_all (member c.args.set.now) c.args.n c.args.sheet.now c.clear_outside.new.sheet c.wipe_from.new.sheet
+          c.clear_outside.ensures (omega arith) c.wipe_from.ensures.before (λ i a b. c.wipe_from.ensures.after i a (omega arith));
     }

@@ -7,6 +7,6 @@ returns c =
     record {
       count = sym (length_off c.args.p c.args.n c.args.sheet.now);
       sheet =
-          left_all c.args.p c.args.n c.args.sheet.now c.clear-place.new.sheet c.wipe-from.new.sheet c.clear-place.ensures
-          (omega arith) c.wipe-from.ensures.before (λ i a b. c.wipe-from.ensures.after i a (omega arith));
+          left_all c.args.p c.args.n c.args.sheet.now c.clear_place.new.sheet c.wipe_from.new.sheet c.clear_place.ensures
+          (omega arith) c.wipe_from.ensures.before (λ i a b. c.wipe_from.ensures.after i a (omega arith));
     }

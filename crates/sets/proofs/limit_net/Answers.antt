@@ -5,5 +5,5 @@ use Rattle.sets.proofs.limit_net.Goals as goal
 
 pub returns : goal.returns
 returns c =
-    limited_net (member c.args.set.now) (view c.args.net.now) (view c.keep-where.new.net) (view c.limit-places.new.net)
-    c.keep-where.result c.limit-places.result c.args.net.now.shape.few c.requires c.keep-where.ensures c.limit-places.ensures
+    limited_net (member c.args.set.now) (view c.args.net.now) (view c.keep_where.new.net) (view c.limit_places.new.net)
+    c.keep_where.result c.limit_places.result c.args.net.now.shape.few c.requires c.keep_where.ensures c.limit_places.ensures

@@ -9,6 +9,6 @@ use Rattle.basics.proofs.BasicsBook.take.Goals as goal
 pub returns : goal.returns
 returns c =
     judged_by_book (view c.args.net.now) c.args.step.now (plain c.decode.result) _ (view c.apply.new.net)
-    (sym c.in-ok-check-size.ensures)
-    (sym (ap (λ (o : Option ℕ). framed (λ _. o) c.args.step.now) (c.basic_width.ensures ∙ ap basic_width c.byte-at.ensures)) ∙ sym c.in-ok-frame.ensures)
+    (sym c.in_ok-check_size.ensures)
+    (sym (ap (λ (o : Option ℕ). framed (λ _. o) c.args.step.now) (c.basic_width.ensures ∙ ap basic_width c.byte_at.ensures)) ∙ sym c.in_ok-frame.ensures)
     c.decode.ensures c.apply.ensures

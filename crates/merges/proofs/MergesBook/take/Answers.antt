@@ -11,7 +11,7 @@ use Rattle.merges.proofs.MergesBook.take.Goals as goal
 pub returns : goal.returns
 returns c =
     house_judged from_net from_bytes from_step merge_width merge_step (view c.args.net.now) c.args.step.now (plain c.decode.result) _
-    (view c.apply.new.net) (sym c.in-ok-check-size.ensures)
-    (sym (ap (λ (o : Option ℕ). framed (λ _. o) c.args.step.now) (c.merge_width.ensures ∙ ap merge_width c.byte-at.ensures))
-    ∙ sym c.in-ok-frame.ensures)
+    (view c.apply.new.net) (sym c.in_ok-check_size.ensures)
+    (sym (ap (λ (o : Option ℕ). framed (λ _. o) c.args.step.now) (c.merge_width.ensures ∙ ap merge_width c.byte_at.ensures))
+    ∙ sym c.in_ok-frame.ensures)
     c.decode.ensures (owned c.args.step.now) c.apply.ensures

@@ -16,7 +16,7 @@ own false t k p q a c = refl
 pub returns : goal.returns
 returns c =
     house_judged from_net from_bytes from_step move_width move_step (view c.args.net.now) c.args.step.now (plain c.decode.result)
-    c.apply.result (view c.apply.new.net) (sym c.in-ok-check-size.ensures)
-    (sym (ap (λ (o : Option ℕ). framed (λ _. o) c.args.step.now) (c.move_width.ensures ∙ ap move_width c.byte-at.ensures))
-    ∙ sym c.in-ok-frame.ensures)
+    c.apply.result (view c.apply.new.net) (sym c.in_ok-check_size.ensures)
+    (sym (ap (λ (o : Option ℕ). framed (λ _. o) c.args.step.now) (c.move_width.ensures ∙ ap move_width c.byte_at.ensures))
+    ∙ sym c.in_ok-frame.ensures)
     c.decode.ensures (own (eqb (one c.args.step.now 0) 0x2d) _ _ _ _ _ _) c.apply.ensures

@@ -7,7 +7,7 @@ returns c =
     record {
       count = sym (length_rows_in c.args.n c.args.sheet.now);
       sheet =
-          marked_all c.args.n c.args.sheet.now (λ p. get_or c.args.marks.now p 0) c.copy-marks.new.sheet c.wipe-from.new.sheet
-          c.copy-marks.ensures.marks c.copy-marks.ensures.after (omega arith) c.wipe-from.ensures.before
-          (λ i a b. c.wipe-from.ensures.after i a (omega arith));
+          marked_all c.args.n c.args.sheet.now (λ p. get_or c.args.marks.now p 0) c.copy_marks.new.sheet c.wipe_from.new.sheet
+          c.copy_marks.ensures.marks c.copy_marks.ensures.after (omega arith) c.wipe_from.ensures.before
+          (λ i a b. c.wipe_from.ensures.after i a (omega arith));
     }

@@ -3,5 +3,5 @@ use Rattle.net.specs.Drafts.{arc_in}
 use Rattle.net.proofs.Keeps.{answered_sound}
 use Rattle.net.proofs.draft.Draft.arc_in.Goals as goal
 
-pub invariant-of-self : goal.invariant-of-self
-invariant-of-self c = (answered_sound (arc_in c.args.t c.args.p c.args.weight) _ (view c.arc_in.new.self) (view c.args.self.now.net) c.arc_in.ensures c.args.self.now.sound, tt)
+pub invariant_of-self : goal.invariant_of-self
+invariant_of-self c = (answered_sound (arc_in c.args.t c.args.p c.args.weight) _ (view c.arc_in.new.self) (view c.args.self.now.net) c.arc_in.ensures c.args.self.now.sound, tt)

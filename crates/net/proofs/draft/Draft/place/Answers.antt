@@ -4,5 +4,5 @@ use Rattle.net.specs.Drafts.{place}
 use Rattle.net.proofs.Keeps.{answered_sound}
 use Rattle.net.proofs.draft.Draft.place.Goals as goal
 
-pub invariant-of-self : goal.invariant-of-self
-invariant-of-self c = (answered_sound (place c.args.mark (omega arith) c.args.flag) _ (view c.place.new.self) (view c.args.self.now.net) c.place.ensures c.args.self.now.sound, tt)
+pub invariant_of-self : goal.invariant_of-self
+invariant_of-self c = (answered_sound (place c.args.mark (omega arith) c.args.flag) _ (view c.place.new.self) (view c.args.self.now.net) c.place.ensures c.args.self.now.sound, tt)

@@ -3,5 +3,5 @@ use Rattle.net.specs.Drafts.{question}
 use Rattle.net.proofs.Keeps.{answered_sound}
 use Rattle.net.proofs.draft.Draft.question.Goals as goal
 
-pub invariant-of-self : goal.invariant-of-self
-invariant-of-self c = (answered_sound (question c.args.number) _ (view c.ask.new.self) (view c.args.self.now.net) c.ask.ensures c.args.self.now.sound, tt)
+pub invariant_of-self : goal.invariant_of-self
+invariant_of-self c = (answered_sound (question c.args.number) _ (view c.ask.new.self) (view c.args.self.now.net) c.ask.ensures c.args.self.now.sound, tt)

@@ -1,8 +1,8 @@
 use Rattle.net.proofs.Keeps.{started_bare, bare_sound, drafts_have_qualities}
 use Rattle.net.proofs.draft.Draft.start.Goals as goal
 
-pub invariant-of-result-2 : goal.invariant-of-result-2
-invariant-of-result-2 c = (bare_sound c.args.sheet.now c.prepare.new.sheet c.prepare.ensures, tt)
+pub invariant_of-result-2 : goal.invariant_of-result-2
+invariant_of-result-2 c = (bare_sound c.args.sheet.now c.prepare.new.sheet c.prepare.ensures, tt)
 
 pub returns : goal.returns
 returns c =

@@ -3,5 +3,5 @@ use Rattle.net.specs.Drafts.{transition}
 use Rattle.net.proofs.Keeps.{answered_sound}
 use Rattle.net.proofs.draft.Draft.transition.Goals as goal
 
-pub invariant-of-self : goal.invariant-of-self
-invariant-of-self c = (answered_sound transition _ (view c.transition.new.self) (view c.args.self.now.net) c.transition.ensures c.args.self.now.sound, tt)
+pub invariant_of-self : goal.invariant_of-self
+invariant_of-self c = (answered_sound transition _ (view c.transition.new.self) (view c.args.self.now.net) c.transition.ensures c.args.self.now.sound, tt)
