@@ -2,7 +2,7 @@ use Rattle.net.proofs.Keeps.{started_bare, bare_sound, drafts_have_qualities}
 use Rattle.net.proofs.draft.Draft.start.Goals as goal
 
 pub invariant_of-result-2 : goal.invariant_of-result-2
-invariant_of-result-2 c = (bare_sound c.args.sheet.now c.prepare.new.sheet c.prepare.ensures, tt)
+invariant_of-result-2 c = record { sound = bare_sound c.args.sheet.now c.prepare.new.sheet c.prepare.ensures }
 
 pub returns : goal.returns
 returns c =
