@@ -23,7 +23,7 @@ pub loop-at-preserved : goal.loop-at-preserved
 loop-at-preserved c =
     fill_again c.args.bytes.now (drafted c.loop-at.draft) (drafted c.step.new.draft) c.loop-at.at c.loop-at.count _
     c.loop-at.invariant.3 c.loop-at-test.true c.loop-at.invariant.1 c.in_ok-c.c c.in_ok-c.ensures c.size-at.result
-    c.size-at.ensures c.in-default.not-End
+    c.size-at.ensures c.in_default.not-End
 
 pub returns : goal.returns
 returns c =
