@@ -48,13 +48,13 @@ impl<P: Book, Q: Book> Book for Joined<P, Q> {
     ghost taken = { joined_taken P.Book.width_of P.Book.taken Q.Book.taken };
 
     ghost keeps = { λ s t bytes q h.
-        joined_keeps Fault-as-Numbered-1.number_of Fault-as-Numbered-2.number_of P.Book.width_of Q.Book.width_of P.Book.taken Q.Book.taken (Kept s) s t bytes
+        joined_keeps P.Fault.Numbered.number_of Q.Fault.Numbered.number_of P.Book.width_of Q.Book.width_of P.Book.taken Q.Book.taken (Kept s) s t bytes
         (P.Book.keeps s t bytes q) (Q.Book.keeps s t bytes q) h };
 
-    ghost narrow = { joined_narrow Fault-as-Numbered-1.number_of Fault-as-Numbered-2.number_of P.Book.width_of Q.Book.width_of P.Book.taken Q.Book.taken
+    ghost narrow = { joined_narrow P.Fault.Numbered.number_of Q.Fault.Numbered.number_of P.Book.width_of Q.Book.width_of P.Book.taken Q.Book.taken
         P.Book.narrow Q.Book.narrow };
 
-    ghost refuses = { joined_refuses Fault-as-Numbered-1.number_of Fault-as-Numbered-2.number_of P.Book.width_of Q.Book.width_of P.Book.taken Q.Book.taken
+    ghost refuses = { joined_refuses P.Fault.Numbered.number_of Q.Fault.Numbered.number_of P.Book.width_of Q.Book.width_of P.Book.taken Q.Book.taken
         P.Book.refuses Q.Book.refuses };
 
     fn width(&self, first: u8) -> Option<u8> {
