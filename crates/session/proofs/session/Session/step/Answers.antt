@@ -8,11 +8,12 @@ use Rattle.session.proofs.session.Session.step.Goals as goal
 
 pub invariant_of-self : goal.invariant_of-self
 invariant_of-self g c =
-    let before = view c.args.self.now.net in (
-      answered_sound before c.requires _ (λ t. g.met.B.Book.keeps before t _) _ (view c.take.new.net) c.take.ensures
-          c.args.self.now.sound,
-      tt,
-    )
+    let before = view c.args.self.now.net in
+    record {
+      sound =
+          answered_sound before c.requires _ (λ t. g.met.B.Book.keeps before t _) _ (view c.take.new.net) c.take.ensures
+          c.args.self.now.sound;
+    }
 
 pub returns : goal.returns
 returns g c =
