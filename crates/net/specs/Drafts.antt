@@ -1,5 +1,5 @@
 -- What each call of a draft does to its state: the table of its refusals, and the next state.
-use Rattle.std.specs.Prelude.{◌≡◌, ℕ, suc, ◌+◌, ◌≤◌, Bool, true, false, cond, ◌&&◌, ltb, leb, List, [], ◌∷◌, ◌++◌, length, Result, ◌==◌, nat_eq, nat_le, nat_lt, slice_index, slice_set}
+use Rattle.std.specs.Prelude.{◌≡◌, ℕ, suc, ◌+◌, ◌≤◌, Bool, true, false, cond, ◌&&◌, nat_lt, nat_le, List, [], ◌∷◌, ◌++◌, length, Result, ◌==◌, nat_eq, slice_index, slice_set}
 use Rattle.net.specs.declared.net.NetFault.{NetFault}
 use Rattle.net.specs.declared.net.NetFault.TheVariants.{WrongSize, TooManyPlaces, BadFlag, TooManyTransitions, BadWeight, ArcExists, BadQuestion}
 use Rattle.net.specs.declared.net.Question.{Question}
@@ -17,7 +17,7 @@ next_place (false ∷ fs) = 0
 
 -- A place: its start mark, and whether it is in the support.
 abbrev pub place_table : State → ℕ → List (Check NetFault)
-place_table s f = WrongSize unless sized s ∷ TooManyPlaces unless ltb (next_place s.standing) most_places ∷ BadFlag unless leb f 1 ∷ []
+place_table s f = WrongSize unless sized s ∷ TooManyPlaces unless nat_lt (next_place s.standing) most_places ∷ BadFlag unless nat_le f 1 ∷ []
 
 abbrev pub with_place : State → ℕ → Bool → State
 with_place s m b =
@@ -35,7 +35,7 @@ place_added s m f = judged (place_table s f) (with_place s m (f == 1))
 
 -- A transition without arcs: its row, as yet unused, is 0.
 abbrev pub transition_table : State → List (Check NetFault)
-transition_table s = WrongSize unless sized s ∷ TooManyTransitions unless ltb s.transitions most_transitions ∷ []
+transition_table s = WrongSize unless sized s ∷ TooManyTransitions unless nat_lt s.transitions most_transitions ∷ []
 
 abbrev pub with_transition : State → State
 with_transition s =
@@ -78,7 +78,7 @@ abbrev pub question_of : ℕ → Question
 question_of q = cond (nat_le q 1) Reach (cond (q == 2) Standstill Both)
 
 abbrev pub question_table : State → ℕ → List (Check NetFault)
-question_table s q = WrongSize unless sized s ∷ BadQuestion unless leb q 3 ∷ []
+question_table s q = WrongSize unless sized s ∷ BadQuestion unless nat_le q 3 ∷ []
 
 abbrev pub with_question : State → ℕ → State
 with_question s q =

@@ -1,5 +1,5 @@
 -- The fifteen steps: for each the table of its refusals, in their order, and its next state.
-use Rattle.std.specs.Prelude.{ℕ, ◌*◌, Bool, not, ◌&&◌, ltb, leb, List, [], ◌∷◌, length, Result, ◌==◌, nat_le, nat_lt}
+use Rattle.std.specs.Prelude.{ℕ, ◌*◌, Bool, not, ◌&&◌, nat_lt, nat_le, List, [], ◌∷◌, length, Result, ◌==◌}
 use Rattle.net.specs.Sheets.{most_transitions, most_weight, most_mark}
 use Rattle.net.specs.Refusals.{Check, ◌unless◌, judged}
 use Rattle.net.specs.States.{State, stands, in_support, mark, take, put}
@@ -55,14 +55,14 @@ standstill_only s = NotServed unless not (asks_reach s.question)
 -- All numbers of a state are within their limits.
 abbrev pub in_limits? : State → Bool
 in_limits? s =
-    every_place (λ p. leb (mark s p) most_mark)
+    every_place (λ p. nat_le (mark s p) most_mark)
     && every_transition s (λ t. every_place (λ p. nat_le (take s t p) most_weight && nat_le (put s t p) most_weight))
 
 -- The last questions of an agglomeration: pairs, transitions afterwards, limits.
 abbrev pub merge_checks : State → ℕ → State → List (Check Refusal)
 merge_checks s p next =
-    TooManyPairs unless leb (length (feeders s p) * length (consumers s p)) 32
-    ∷ TooManyRows unless leb next.transitions most_transitions
+    TooManyPairs unless nat_le (length (feeders s p) * length (consumers s p)) 32
+    ∷ TooManyRows unless nat_le next.transitions most_transitions
     ∷ PastLimit unless in_limits? next
     ∷ []
 
@@ -72,7 +72,7 @@ table s (drop_dominated t u) =
 table s (drop_multiple t u k) =
     NoTransition unless (there s t && there s u)
     ∷ NotDistinct unless not (t == u)
-    ∷ Nothing unless ltb 0 k
+    ∷ Nothing unless nat_lt 0 k
     ∷ Arcs unless multiple? s t u k
     ∷ []
 table s (drop_composed t u v) =
@@ -93,7 +93,7 @@ table s (remove_plentiful p) =
 table s (remove_implied p q k) =
     NoPlace unless (stands s p && stands s q)
     ∷ NotDistinct unless not (p == q)
-    ∷ Nothing unless ltb 0 k
+    ∷ Nothing unless nat_lt 0 k
     ∷ Support unless not (in_support s p)
     ∷ Arcs unless implied? s p q k
     ∷ Marks unless covers? s p q k
@@ -137,7 +137,7 @@ table s (free_agglomerate p) =
     ∷ merge_checks s p (pre_merging p s)
 table s (fire_ahead t k) =
     NoTransition unless there s t
-    ∷ Nothing unless ltb 0 k
+    ∷ Nothing unless nat_lt 0 k
     ∷ Arcs unless ahead? s t
     ∷ Marks unless suffices? s t k
     ∷ PastLimit unless in_limits? (firing_ahead t k s)

@@ -1,6 +1,6 @@
 -- The conditions of the steps as tests that compute, of a state. Beside each stands, in the proofs, that it says the same as the
 -- condition in words of the net that the state holds.
-use Rattle.std.specs.Prelude.{ℕ, zero, suc, ◌+◌, ◌-◌, ◌*◌, ◌/◌, ◌%◌, ◌^◌, Bool, true, false, cond, not, ◌&&◌, ◌||◌, ltb, leb, List, [], ◌∷◌, length, filter, ◌==◌, nat_eq, nat_le, nat_lt, slice_index}
+use Rattle.std.specs.Prelude.{ℕ, zero, suc, ◌+◌, ◌-◌, ◌*◌, ◌/◌, ◌%◌, ◌^◌, Bool, true, false, cond, not, ◌&&◌, ◌||◌, nat_lt, nat_le, List, [], ◌∷◌, length, filter, ◌==◌, nat_eq, slice_index}
 use Rattle.std.specs.List.{range_with_len}
 use Rattle.net.specs.Sheets.{Row, most_mark, most_weight}
 use Rattle.net.specs.States.{State, stands, in_support, mark, take, put}
@@ -61,10 +61,10 @@ abbrev pub starved? : State → ℕ → ℕ → Bool
 starved? s t p = nat_lt (mark s p) (take s t p)
 
 abbrev pub never_loses? : State → ℕ → Bool
-never_loses? s p = every_transition s (λ t. leb (take s t p) (put s t p))
+never_loses? s p = every_transition s (λ t. nat_le (take s t p) (put s t p))
 
 abbrev pub always_enough? : State → ℕ → Bool
-always_enough? s p = every_transition s (λ t. leb (take s t p) (mark s p))
+always_enough? s p = every_transition s (λ t. nat_le (take s t p) (mark s p))
 
 abbrev pub implied? : State → ℕ → ℕ → ℕ → Bool
 implied? s p q k =
@@ -94,7 +94,7 @@ outside z p = not (z p)
 
 -- In the set no positive effect, and on the support no effect.
 abbrev pub falls? : State → (ℕ → Bool) → ℕ → Bool
-falls? s z t = every_place (λ q. (z q ⇒ leb (put s t q) (take s t q)) && (in_support s q ⇒ nat_eq (put s t q) (take s t q)))
+falls? s z t = every_place (λ q. (z q ⇒ nat_le (put s t q) (take s t q)) && (in_support s q ⇒ nat_eq (put s t q) (take s t q)))
 
 abbrev pub sufficient? : State → (ℕ → Bool) → Bool
 sufficient? s z = every_transition s (λ t. takes_from? s (outside z) t ⇒ falls? s z t)
@@ -159,21 +159,21 @@ free_consumers? s p = every_transition s (λ f. consumer? s p f ⇒ nat_eq (take
 
 abbrev pub pre_feeders? : State → ℕ → Bool
 pre_feeders? s p =
-    every_transition s (λ h. feeder? s p h ⇒ (some_place (λ q. ltb 0 (take s h q))
-    && every_place (λ q. ltb 0 (take s h q) ⇒ every_transition s (λ u. ltb 0 (take s u q) ⇒ nat_eq u h))))
+    every_transition s (λ h. feeder? s p h ⇒ (some_place (λ q. nat_lt 0 (take s h q))
+    && every_place (λ q. nat_lt 0 (take s h q) ⇒ every_transition s (λ u. nat_lt 0 (take s u q) ⇒ nat_eq u h))))
 
 abbrev pub unmarked? : State → ℕ → Bool
 unmarked? s p = mark s p == 0
 
 -- Firing ahead: `source s t` is the first place that `t` takes from.
 abbrev pub source : State → ℕ → ℕ
-source s t = first 64 (λ p. ltb 0 (take s t p))
+source s t = first 64 (λ p. nat_lt 0 (take s t p))
 
 abbrev pub ahead? : State → ℕ → Bool
 ahead? s t =
     nat_lt (source s t) 64
     && (every_place (λ q. not (q == source s t) ⇒ nat_eq (take s t q) 0)
-    && (every_transition s (λ u. ltb 0 (take s u (source s t)) ⇒ nat_eq u t)
+    && (every_transition s (λ u. nat_lt 0 (take s u (source s t)) ⇒ nat_eq u t)
     && (put s t (source s t) == 0
     && (every_place (λ q. in_support s q ⇒ nat_eq (put s t q) 0) && not (in_support s (source s t))))))
 
@@ -193,7 +193,7 @@ abbrev pub mark_ahead : State → ℕ → ℕ → ℕ → ℕ
 mark_ahead s t k p = (mark s p - k * take s t p) + k * put s t p
 
 abbrev pub ahead_fits? : State → ℕ → ℕ → Bool
-ahead_fits? s t k = every_place (λ p. leb (mark_ahead s t k p) most_mark)
+ahead_fits? s t k = every_place (λ p. nat_le (mark_ahead s t k p) most_mark)
 
 abbrev pub fusion_fits? : State → ℕ → ℕ → Bool
 fusion_fits? s p q =
