@@ -74,3 +74,11 @@ module _ (before after : State) (bs : List ℕ) where
     read_refused e t f k =
         let s = stopped (read_on (length bs) clear bs 0 0) e t f in
         record { answer = f.answer ∙ ap used_or_fault (sym into); state = k s.0 ∙ sym s.1 ∙ ap (left_or_empty before) (sym into) }
+
+-- After a refused command the draft is cleared.
+pub given_up : (r u : Result Unit NetFault) (q : Result Unit (Placed NetFault)) (before clear half after : State) (bs : List ℕ) (x : Unit) (e : ReadFault)
+    → Answered r clear before (cleared before) → q ≡ placed r layer.Net 0 0 → Ok x ≡ q
+    → Filled (Err e) half (read_on (length bs) clear bs 0 0) → Answered u after half (cleared half) → Read (Err e) after before bs
+given_up r u q before clear half after bs x e a h k f b =
+    let z = clears r clear before a (Ok x) (k ∙ h) in
+    read_refused before after bs z.0 clear z.1 e half f (cleared_sized u after half b)

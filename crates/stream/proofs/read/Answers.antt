@@ -1,8 +1,8 @@
-use Rattle.std.proofs.Common.{◌≡◌, sym, ap, ◌∙◌}
+use Rattle.std.proofs.Common.{◌≡◌, sym, ap, ◌∙◌, rules}
 use Rattle.std.proofs.lemmas.Result.{err_from_is_err_and}
 use Rattle.net.specs.Views.{drafted}
 use Rattle.net.specs.States.{sized}
-use Rattle.stream.proofs.Reading.{empty_sized, clears, cleared_sized, refused_size, read_whole, read_refused}
+use Rattle.stream.proofs.Reading.{empty_sized, clears, cleared_sized, refused_size, read_whole, given_up}
 use Rattle.stream.proofs.Writing.{reads_what_is_written}
 use Rattle.stream.proofs.read.Goals as goal
 
@@ -29,12 +29,4 @@ returns-in-Ok c =
     }
 
 pub returns-in-Err : goal.returns-in-Err
-returns-in-Err c =
-    let k = clears c.clear.result (drafted c.clear.new.self) (drafted c.args.draft.now) c.clear.ensures _ (sym c.in_ok-at_place.was ∙ c.at_place.ensures) in
-    record {
-      exact =
-          read_refused (drafted c.args.draft.now) (drafted c.clear-in-Err.new.self) c.args.bytes.now k.0 (drafted c.clear.new.self) k.1 c.in-Err.fault
-          (drafted c.fill.new.draft) c.in-Err.ensures
-          (cleared_sized c.clear-in-Err.result (drafted c.clear-in-Err.new.self) (drafted c.fill.new.draft) c.clear-in-Err.ensures);
-      honest = reads_what_is_written;
-    }
+returns-in-Err c = record { exact = search (rules, given_up); honest = reads_what_is_written }
