@@ -1,7 +1,7 @@
 // Rewrites of a net in place: transitions are dropped and the list closes up, places go, and marks change.
 #![tactic(auto)]
 
-ghost use Rattle.std.specs.Prelude.{◌≡◌, ℕ, ◌+◌, ◌*◌, ◌%◌, ◌<◌, ◌≤◌, true, false, ◌&&◌, length, get_or, if◌then◌else◌, Ok, nat_eq, slice_index, slice_index_or};
+ghost use Rattle.std.specs.Prelude.{◌≡◌, ℕ, ◌+◌, ◌*◌, ◌%◌, ◌<◌, ◌≤◌, true, false, ◌&&◌, length, if◌then◌else◌, Ok, nat_eq, slice_index, slice_index_or};
 ghost use Rattle.net.specs.Looks.{measured, sheet_checks, place_checks, place_checked};
 ghost use Rattle.net.specs.Refusals.{judged};
 ghost use Rattle.net.specs.Sheets.{mark_at, sheet_of};
@@ -36,7 +36,7 @@ fn copy_row(sheet: &mut [u32], from: usize, to: usize)
 fn close_up(sheet: &mut [u32], n: usize, keep: &[bool; 96]) -> usize
     requires { (length sheet.old ≡ 12352) × (n ≤ 96) }
     ensures few { result ≤ n }
-    ensures closed { Closed sheet.old sheet.new (those (λ t. get_or keep.now t false) n) result }
+    ensures closed { Closed sheet.old sheet.new (those (λ t. slice_index_or keep.now t false) n) result }
 {
     let mut to = 0;
     for t in 0..n {
@@ -62,8 +62,8 @@ fn wipe_from(sheet: &mut [u32], from: usize)
 fn keep_rows(sheet: &mut [u32], n: usize, keep: &[bool; 96]) -> usize
     requires { (length sheet.old ≡ 12352) × (n ≤ 96) }
     ensures few { result ≤ n }
-    ensures count { result ≡ length (kept_in (λ t. get_or keep.now t false) sheet.old n) }
-    ensures sheet { sheet.new ≡ sheet_of (mark_at sheet.old) (kept_in (λ t. get_or keep.now t false) sheet.old n) }
+    ensures count { result ≡ length (kept_in (λ t. slice_index_or keep.now t false) sheet.old n) }
+    ensures sheet { sheet.new ≡ sheet_of (mark_at sheet.old) (kept_in (λ t. slice_index_or keep.now t false) sheet.old n) }
 {
     let kept = close_up(sheet, n, keep);
     wipe_from(sheet, 64 + 128 * kept);
@@ -144,7 +144,7 @@ fn check_place(net: &Net<'_>, p: usize) -> Result<(), NetFault>
 
 // Keeps the transitions whose flag is true, and the list closes up; all rows after them become 0.
 pub fn keep_transitions(net: &mut Net<'_>, keep: &[bool; 96]) -> Result<(), NetFault>
-    ensures { Answered result (view net.new) (view net.old) (judged (sheet_checks (view net.old)) (keeping (λ t. get_or keep.now t false) (view net.old))) }
+    ensures { Answered result (view net.new) (view net.old) (judged (sheet_checks (view net.old)) (keeping (λ t. slice_index_or keep.now t false) (view net.old))) }
 {
     check_sheet(net)?;
     let n = net.shape.transitions;
