@@ -1,6 +1,5 @@
 -- Transitions that stay, by their flags.
-use Rattle.std.proofs.Common.{◌≡◌, ℕ, zero, suc, ◌+◌, ◌<◌, ◌≤◌, Bool, true, false, cond, not, eqb, ◌≢◌, ◌⊎◌, List, [], ◌∷◌, map, length, get_or, set, replicate, Ok, Err, filter, Result, sym, refl, ap, ◌∙◌, inl, inr, arith, get_or-set_other, get_or-set_same}
-use lib.ListN.{length-replicate}
+use Rattle.std.proofs.Common.{◌≡◌, ℕ, zero, suc, ◌+◌, ◌<◌, ◌≤◌, Bool, true, false, cond, not, eqb, ◌≢◌, ◌⊎◌, List, ◌∷◌, map, length, get_or, set, replicate, Ok, Err, filter, Result, refl, ap, ◌∙◌, inl, inr, arith, get_or-set_other, get_or-set_same}
 use Rattle.std.specs.List.{range_with_len}
 use Rattle.std.proofs.lemmas.List.{get_or-replicate}
 use Rattle.std.proofs.lemmas.Bool.{cases_eq, eq-eqb, ne_eqb}
@@ -10,7 +9,6 @@ use Rattle.net.specs.Sheets.{row_at}
 use Rattle.net.specs.States.{State, sized, mark, left, Answered}
 use Rattle.net.specs.Looks.{sheet_checks}
 use Rattle.net.specs.Refusals.{judged}
-use Rattle.theory.specs.Tests.{those}
 use Rattle.theory.specs.Rewrites.{rewritten, keeping}
 
 -- The flags of all transitions, with one set apart.

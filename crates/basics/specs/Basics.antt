@@ -1,5 +1,5 @@
 -- The first house book owns 20 to 27: steps that drop one transition, keep one, or remove one place.
-use Rattle.std.specs.Prelude.{ℕ, cond, List, Some, None, Ok, Err, Option, Result, ◌==◌}
+use Rattle.std.specs.Prelude.{ℕ, cond, List, Some, None, Err, Result, ◌==◌}
 use Rattle.net.specs.States.{State}
 use Rattle.theory.specs.Steps as steps
 use Rattle.books.specs.declared.faults.Misfit.TheVariants.{Unknown}

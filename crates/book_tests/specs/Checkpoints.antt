@@ -1,5 +1,5 @@
 -- A customer's book with one step, 80 p k: place p has at least k tokens at the start. It changes nothing.
-use Rattle.std.specs.Prelude.{ℕ, cond, List, [], ◌∷◌, Some, None, Option, Result, ◌==◌, nat_le}
+use Rattle.std.specs.Prelude.{ℕ, cond, List, [], ◌∷◌, Some, None, Result, ◌==◌, nat_le}
 use Rattle.net.specs.declared.net.NetFault.{NetFault}
 use Rattle.net.specs.Refusals.{Check, ◌unless◌, judged, net_number}
 use Rattle.net.specs.States.{State, stands, mark}

@@ -1,19 +1,18 @@
 -- A step that changes nothing is lawful.
-use Rattle.std.specs.Prelude.{◌≡◌, ℕ, Bool, true, cond, List, Ok, Err, Result, refl}
-use Rattle.std.proofs.Common.{sym, ◌∙◌, ap, subst}
-use Rattle.net.specs.declared.net.NetFault.{NetFault}
+use Rattle.std.specs.Prelude.{◌≡◌, ℕ, Bool, cond, List, Ok, Err, Result, refl}
+use Rattle.std.proofs.Common.{◌∙◌, ap, subst}
 use Rattle.net.specs.declared.net.NetFault.TheVariants.{WrongSize}
 use Rattle.net.specs.Refusals.{judged}
-use Rattle.net.specs.States.{State, sized}
+use Rattle.net.specs.States.{State}
 use Rattle.net.specs.Qualities.{Qualities}
 use Rattle.net.specs.Looks.{measured}
 use Rattle.net.proofs.Tables.{passed, ok_not_err}
-use Rattle.theory.specs.Laws.{net_of, Supports, Kept}
+use Rattle.theory.specs.Laws.{Kept}
 use Rattle.books.specs.declared.faults.Misfit.{Misfit}
-use Rattle.books.specs.Frames.{framed, misfit_number, RefusesMisfits}
+use Rattle.books.specs.Frames.{framed, RefusesMisfits}
 use Rattle.books.specs.House.{one, two, after}
 use Rattle.book_tests.specs.declared.checkpoint.CheckpointFault.{CheckpointFault}
-use Rattle.book_tests.specs.declared.checkpoint.CheckpointFault.TheVariants.{Net, Bytes, Gone, Low}
+use Rattle.book_tests.specs.declared.checkpoint.CheckpointFault.TheVariants.{Net, Bytes}
 use Rattle.book_tests.specs.Checkpoints.{checkpoint_width, checkpoint_table, checkpoint_taken, checkpoint_number}
 
 kept_self : (s : State) → Qualities s → Kept s s

@@ -1,9 +1,9 @@
 -- What every house book keeps.
-use Rattle.std.proofs.Common.{◌≡◌, ℕ, Bool, true, false, cond, eqb, List, [], ◌∷◌, length, is_some, Ok, Err, Result, sym, refl, ap, ◌∙◌, subst}
+use Rattle.std.proofs.Common.{◌≡◌, ℕ, Bool, true, false, cond, List, [], ◌∷◌, is_some, Ok, Err, Result, sym, ap, ◌∙◌, subst}
 use Rattle.net.specs.declared.net.NetFault.{NetFault}
 use Rattle.net.specs.declared.net.NetFault.TheVariants.{WrongSize}
 use Rattle.net.specs.Refusals.{Check, judged}
-use Rattle.net.specs.States.{State, sized, said, left, Answered}
+use Rattle.net.specs.States.{State, said, left, Answered}
 use Rattle.net.specs.Qualities.{Qualities}
 use Rattle.net.specs.Looks.{measured}
 use Rattle.net.proofs.Tables.{ok_same, ok_not_err, err_same}

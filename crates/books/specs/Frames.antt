@@ -1,5 +1,5 @@
 -- How the bytes of a step are framed: a first byte that a book owns, and as many operand bytes as its width says.
-use Rattle.std.specs.Prelude.{◌≡◌, ℕ, ◌+◌, ◌≤◌, true, cond, List, [], ◌∷◌, length, is_some, Some, None, Ok, Err, Option, Result, nat_le, nat_lt, slice_index}
+use Rattle.std.specs.Prelude.{◌≡◌, ℕ, ◌+◌, ◌≤◌, true, List, [], ◌∷◌, length, is_some, Some, None, Err, Option, Result, nat_le, nat_lt, slice_index}
 use Rattle.net.specs.Refusals.{Check, ◌unless◌, judged}
 use Rattle.net.specs.States.{State, sized}
 use Rattle.books.specs.declared.faults.Misfit.{Misfit}

@@ -1,5 +1,5 @@
 -- House books: a step is framed by its widths, decoded, and judged by the tables of the steps.
-use Rattle.std.specs.Prelude.{◌≡◌, ℕ, ◌+◌, ◌*◌, cond, List, take, drop, is_some, Ok, Err, Result, slice_index}
+use Rattle.std.specs.Prelude.{ℕ, ◌+◌, ◌*◌, cond, List, take, drop, is_some, Ok, Err, Result, slice_index}
 use Rattle.net.specs.declared.net.NetFault.{NetFault}
 use Rattle.net.specs.States.{State}
 use Rattle.net.specs.Looks.{measured}

@@ -1,14 +1,13 @@
 -- What two joined books keep, from what each keeps.
-use Rattle.std.specs.Prelude.{◌≡◌, ℕ, ◌+◌, ◌<◌, ◌≤◌, Bool, true, false, cond, ◌&&◌, ◌⊎◌, List, length, is_some, Some, None, Ok, Err, Option, Result, nat_lt, slice_index, refl}
-use Rattle.std.proofs.Common.{arith, sym, ◌∙◌, ap, inl, inr}
+use Rattle.std.specs.Prelude.{◌≡◌, ℕ, ◌≤◌, Bool, true, false, cond, ◌&&◌, ◌⊎◌, List, length, is_some, Some, None, Ok, Err, Option, Result, nat_lt, slice_index, refl}
+use Rattle.std.proofs.Common.{sym, ◌∙◌, ap, inl, inr}
 use Rattle.std.proofs.lemmas.Bool.{and_parts, and_cases, cases_Bool, both_ways}
-use Rattle.net.specs.States.{State, sized}
+use Rattle.net.specs.States.{State}
 use Rattle.net.proofs.Tables.{ok_same, ok_not_err}
-use Rattle.books.specs.declared.faults.Misfit.{Misfit}
-use Rattle.books.specs.declared.faults.Misfit.TheVariants.{Short, Unknown, Long}
+use Rattle.books.specs.declared.faults.Misfit.TheVariants.{Short}
 use Rattle.books.specs.declared.joined.EitherFault.{EitherFault}
 use Rattle.books.specs.declared.joined.EitherFault.TheVariants.{First, Second}
-use Rattle.books.specs.Frames.{Widths, width_or, framed, misfit_number, Narrow, RefusesMisfits}
+use Rattle.books.specs.Frames.{Widths, framed, misfit_number, Narrow, RefusesMisfits}
 use Rattle.books.specs.Joins.{either_number, from_first, from_second, first_or, joined_width, joined_taken, SilentInFront}
 
 first_ok : {F G : Type 0} (r : Result State F) (t : State) → from_first {G = G} r ≡ Ok t → r ≡ Ok t

@@ -1,5 +1,5 @@
 -- Two books joined: the first that owns the byte judges, else the second.
-use Rattle.std.specs.Prelude.{◌≡◌, ℕ, cond, ◌&&◌, List, [], ◌∷◌, length, is_some, Some, None, Ok, Err, Option, Result, nat_lt, slice_index}
+use Rattle.std.specs.Prelude.{◌≡◌, ℕ, cond, ◌&&◌, List, length, is_some, Some, None, Ok, Err, Option, Result, nat_lt, slice_index}
 use Rattle.net.specs.States.{State}
 use Rattle.books.specs.declared.joined.EitherFault.{EitherFault}
 use Rattle.books.specs.declared.joined.EitherFault.TheVariants.{First, Second}

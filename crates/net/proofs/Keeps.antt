@@ -1,16 +1,15 @@
 -- Each call of a draft keeps the qualities of the net.
-use Rattle.std.proofs.Common.{◌≡◌, ℕ, ◌+◌, ◌*◌, ◌<◌, ◌≤◌, Bool, true, false, cond, ◌&&◌, eqb, ltb, leb, ◌≢◌, ◌⊎◌, List, [], ◌∷◌, ◌++◌, length, get_or, set, replicate, Ok, Err, Result, sym, refl, ap, ◌∙◌, subst, inl, inr, arith, length-set, get_or-set_other, get_or-set_same}
+use Rattle.std.proofs.Common.{◌≡◌, ℕ, ◌+◌, ◌*◌, ◌<◌, ◌≤◌, Bool, true, false, cond, eqb, ◌≢◌, ◌⊎◌, List, [], ◌∷◌, length, get_or, set, Ok, Err, Result, sym, refl, ap, ◌∙◌, subst, inl, inr, arith, length-set, get_or-set_other, get_or-set_same}
 use mathlib.Core.Logic.{∥∥₁_map}
 use Rattle.std.proofs.lemmas.Bool.{cases_eq, cases_lt, lt-ltb, le-ltb, ltb-true, leb-true, eqb-true, eq-eqb, and_parts, true≢false, false≢true}
 use Rattle.std.proofs.lemmas.List.{get_or_past}
-use Rattle.std.proofs.lemmas.List.FromFn.{length-map-range_with_len, get_or-map-range_with_len}
 use Rattle.net.specs.declared.net.NetFault.{NetFault}
-use Rattle.net.specs.Sheets.{takes_base, puts_base, most_mark, most_weight, part, sheet_by, sheet_of, cell}
-use Rattle.net.specs.States.{State, stands, in_support, mark, take, put, empty, bare, said, left, Answered}
-use Rattle.net.specs.Looks.{sheet_checks, arc_checks}
+use Rattle.net.specs.Sheets.{takes_base, puts_base, most_mark, most_weight, part, cell}
+use Rattle.net.specs.States.{State, stands, in_support, empty, bare, left, Answered}
+use Rattle.net.specs.Looks.{sheet_checks}
 use Rattle.net.specs.Drafts.{next_place, place_table, with_place, transition_table, with_transition, arc_table, with_number, question_table, with_question, started, Call, place, transition, arc_in, arc_out, question, clear, called, after_calls}
 use Rattle.net.specs.Qualities.{Qualities, Sound, DraftsHaveQualities}
-use Rattle.net.proofs.Tables.{passed, ok_same, ok_not_err}
+use Rattle.net.proofs.Tables.{passed}
 use Rattle.net.proofs.Writes.{after_set, length_by, number_by, empty_cell}
 
 -- What a part of the sheet reads after a write.

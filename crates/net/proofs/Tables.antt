@@ -1,5 +1,5 @@
 -- A table of refusals: the result comes exactly when all conditions hold.
-use Rattle.std.proofs.Common.{◌≡◌, ℕ, Bool, true, false, cond, List, [], ◌∷◌, Ok, Err, Result, refl, ap, ◌∙◌, arith}
+use Rattle.std.proofs.Common.{◌≡◌, ℕ, Bool, true, false, cond, List, [], ◌∷◌, Ok, Err, Result, refl, arith}
 use Rattle.net.specs.Refusals.{Check, judged, Passes}
 
 pub ok_not_err : {X F : Type 0} {x : X} {e : F} → ◌≡◌ {A = Result X F} (Err e) (Ok x) → ⊥

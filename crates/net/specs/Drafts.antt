@@ -1,5 +1,5 @@
 -- What each call of a draft does to its state: the table of its refusals, and the next state.
-use Rattle.std.specs.Prelude.{◌≡◌, ℕ, suc, ◌+◌, ◌≤◌, Bool, true, false, cond, ◌&&◌, nat_lt, nat_le, List, [], ◌∷◌, ◌++◌, length, Result, ◌==◌, nat_eq, slice_index, slice_set}
+use Rattle.std.specs.Prelude.{ℕ, suc, ◌+◌, ◌≤◌, Bool, true, false, cond, ◌&&◌, nat_lt, nat_le, List, [], ◌∷◌, ◌++◌, length, Result, ◌==◌, nat_eq, slice_index, slice_set}
 use Rattle.net.specs.declared.net.NetFault.{NetFault}
 use Rattle.net.specs.declared.net.NetFault.TheVariants.{WrongSize, TooManyPlaces, BadFlag, TooManyTransitions, BadWeight, ArcExists, BadQuestion}
 use Rattle.net.specs.declared.net.Question.{Question}

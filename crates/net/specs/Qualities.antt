@@ -1,5 +1,5 @@
 -- The qualities that every net has.
-use Rattle.std.specs.Prelude.{◌≡◌, ℕ, ◌+◌, ◌*◌, ◌≤◌, true, false, List, length, slice_index}
+use Rattle.std.specs.Prelude.{◌≡◌, ℕ, ◌≤◌, true, false, List, length, slice_index}
 use Rattle.net.specs.Sheets.{sheet_size, most_places, most_transitions, most_weight, most_mark, takes_base}
 use Rattle.net.specs.States.{State, stands, in_support, mark, take, put}
 use Rattle.net.specs.Drafts.{Call, started, after_calls}

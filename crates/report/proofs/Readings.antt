@@ -1,7 +1,7 @@
 -- A reading over a sheet of the right size is that of the bytes alone.
-use Rattle.std.proofs.Common.{◌≡◌, ℕ, ◌≤◌, Bool, true, cond, List, length, Ok, Err, Result, sym, refl, ap, ◌∙◌, arith}
+use Rattle.std.proofs.Common.{◌≡◌, ℕ, ◌≤◌, Bool, cond, List, length, Ok, Err, Result, sym, ap, ◌∙◌, arith}
 use Rattle.std.proofs.lemmas.Bool.{eq-eqb}
-use Rattle.net.specs.States.{State, sized, empty, bare}
+use Rattle.net.specs.States.{State, empty, bare}
 use Rattle.net.specs.Drafts.{started}
 use Rattle.net.proofs.Tables.{ok_same, ok_not_err, err_same}
 use Rattle.stream.specs.declared.faults.ReadFault.{ReadFault}

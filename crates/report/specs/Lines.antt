@@ -1,5 +1,5 @@
 -- The lines that the program prints for its input.
-use Rattle.std.specs.Prelude.{ℕ, zero, suc, ◌+◌, Bool, cond, List, [], ◌∷◌, ◌++◌, length, drop, Ok, Err, Result, ◌==◌, nat_lt}
+use Rattle.std.specs.Prelude.{ℕ, zero, suc, ◌+◌, cond, List, [], ◌∷◌, ◌++◌, length, drop, Ok, Err, Result, ◌==◌, nat_lt}
 use Rattle.net.specs.declared.net.Look.{Look}
 use Rattle.net.specs.declared.net.Look.TheVariants as look
 use Rattle.net.specs.declared.net.NetFault.{NetFault}

@@ -1,7 +1,7 @@
 -- What the loop of a feed keeps.
-use Rattle.std.proofs.Common.{◌≡◌, ℕ, zero, suc, ◌+◌, ◌-◌, ◌<◌, ◌≤◌, false, eqb, List, length, get_or, take, drop, Ok, Err, Option, Result, sym, refl, ap, ◌∙◌, subst, arith, length-drop, take_all, drop-drop}
+use Rattle.std.proofs.Common.{◌≡◌, ℕ, zero, suc, ◌+◌, ◌-◌, ◌<◌, ◌≤◌, false, eqb, List, length, get_or, take, drop, Ok, Err, Option, Result, sym, refl, ap, ◌∙◌, arith, length-drop, take_all, drop-drop}
 use Rattle.std.proofs.lemmas.Bool.{leb-true}
-use Rattle.net.specs.States.{State, said, Answered}
+use Rattle.net.specs.States.{State, Answered}
 use Rattle.net.proofs.Tables.{passed, ok_same, err_same, ok_not_err}
 use Rattle.books.specs.declared.faults.Misfit.{Misfit}
 use Rattle.books.specs.Frames.{Widths}

@@ -1,10 +1,10 @@
 -- A refusal of a feed has its place within the bytes.
-use Rattle.std.proofs.Common.{◌≡◌, ℕ, zero, suc, ◌+◌, ◌-◌, ◌<◌, ◌≤◌, Bool, true, false, cond, eqb, List, length, take, drop, Ok, Err, Result, sym, refl, ap, ◌∙◌, subst, arith, length-drop}
+use Rattle.std.proofs.Common.{◌≡◌, ℕ, zero, suc, ◌+◌, ◌-◌, ◌≤◌, Bool, true, false, cond, eqb, List, length, take, drop, Ok, Err, Result, sym, refl, ap, arith, length-drop}
 use Rattle.net.specs.States.{State, sized}
 use Rattle.net.proofs.Tables.{err_same, ok_not_err}
 use Rattle.books.specs.declared.faults.Misfit.{Misfit}
 use Rattle.session.specs.declared.faults.SessionFault.{SessionFault}
-use Rattle.session.specs.Feeds.{Meaning, Step, End, ended, by_book, front, with_used, after_front, stepped, go_on, fed_from, fed, PlaceWithin}
+use Rattle.session.specs.Feeds.{Meaning, Step, ended, by_book, front, with_used, after_front, stepped, go_on, fed_from, fed, PlaceWithin}
 use Rattle.session.specs.Faults.{net_refuses}
 use Rattle.net.specs.declared.net.NetFault.TheVariants.{WrongSize}
 use Rattle.session.proofs.Feeds.{step_used}

@@ -1,5 +1,5 @@
 -- A net is limited to a set of places: transitions are dropped, then places go.
-use Rattle.std.proofs.Common.{◌≡◌, ℕ, ◌≤◌, Bool, true, not, ◌&&◌, List, map, length, Result, ap, ◌∙◌}
+use Rattle.std.proofs.Common.{◌≡◌, ℕ, ◌≤◌, Bool, true, not, ◌&&◌, List, map, Result, ap, ◌∙◌}
 use Rattle.std.proofs.lemmas.Bool.{eq-eqb}
 use Rattle.net.specs.declared.net.NetFault.{NetFault}
 use Rattle.net.specs.Looks.{sheet_checks}

@@ -1,5 +1,5 @@
 -- The second house book owns 28 and 29: steps that name a set of places.
-use Rattle.std.specs.Prelude.{ℕ, cond, List, Some, None, Option, Result, ◌==◌}
+use Rattle.std.specs.Prelude.{ℕ, cond, List, Some, None, Result, ◌==◌}
 use Rattle.net.specs.States.{State}
 use Rattle.theory.specs.Steps as steps
 use Rattle.books.specs.Frames.{Widths}

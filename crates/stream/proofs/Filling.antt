@@ -1,5 +1,5 @@
 -- What the loop of the reader keeps.
-use Rattle.std.proofs.Common.{◌≡◌, ℕ, zero, suc, ◌+◌, ◌-◌, ◌<◌, ◌≤◌, Bool, true, false, cond, eqb, ltb, leb, List, [], ◌∷◌, length, get_or, take, drop, is_some, Some, None, Ok, Err, Option, Result, sym, refl, ap, ◌∙◌, subst, arith, length-drop, length-set, drop-drop}
+use Rattle.std.proofs.Common.{◌≡◌, ℕ, zero, suc, ◌+◌, ◌-◌, ◌<◌, ◌≤◌, Bool, true, false, cond, eqb, List, [], length, take, drop, is_some, Some, None, Ok, Err, Result, sym, refl, ap, ◌∙◌, subst, arith, length-drop, length-set, drop-drop}
 use Rattle.std.proofs.lemmas.List.{take_rest, drop_all}
 use Rattle.std.proofs.lemmas.Bool.{leb-true, false≢true}
 use Rattle.net.specs.declared.net.Layer.TheVariants as layer
@@ -14,7 +14,7 @@ use Rattle.stream.specs.declared.faults.Cause.{Cause}
 use Rattle.stream.specs.declared.faults.Cause.TheVariants.{Short}
 use Rattle.stream.specs.declared.faults.ReadFault.{ReadFault}
 use Rattle.stream.specs.Faults.{fault}
-use Rattle.stream.specs.Streams.{one, two, four, operands, width_or, command, command_table, decoded, size, applied, Step, with_state, with_command, stepped, command_or_fault, state_or, Stepped, Reading, goes_on, after_step, read_on, used_or_fault, Ends, Filled}
+use Rattle.stream.specs.Streams.{one, operands, width_or, command, command_table, decoded, size, applied, Step, with_state, with_command, stepped, Stepped, Reading, goes_on, after_step, read_on, Filled}
 
 -- A command keeps the size of the sheet.
 applied_sized : (c : Command) (s t : State) → applied s c ≡ Ok t → sized t ≡ true

@@ -1,5 +1,5 @@
 -- A reading: the draft is cleared, filled, and cleared again after a refusal.
-use Rattle.std.proofs.Common.{◌≡◌, ℕ, Bool, true, false, cond, eqb, List, [], length, Ok, Err, Result, sym, refl, ap, ◌∙◌, subst}
+use Rattle.std.proofs.Common.{◌≡◌, ℕ, Bool, true, false, cond, List, [], length, Ok, Err, Result, sym, refl, ap, ◌∙◌, subst}
 use Rattle.std.proofs.lemmas.Bool.{eq-eqb}
 use Rattle.net.specs.declared.net.Layer.TheVariants as layer
 use Rattle.net.specs.declared.net.NetFault.{NetFault}
@@ -9,12 +9,12 @@ use Rattle.net.specs.Sheets.{cell}
 use Rattle.net.specs.Refusals.{placed}
 use Rattle.net.specs.States.{State, sized, empty, said, left, Answered}
 use Rattle.net.specs.Drafts.{cleared}
-use Rattle.net.proofs.Tables.{ok_same, ok_not_err}
+use Rattle.net.proofs.Tables.{ok_not_err}
 use Rattle.net.proofs.Writes.{length_by}
 use Rattle.stream.specs.declared.faults.Cause.TheVariants.{Net}
 use Rattle.stream.specs.declared.faults.ReadFault.{ReadFault}
 use Rattle.stream.specs.Faults.{fault, from_net}
-use Rattle.stream.specs.Streams.{Reading, reading, read_on, reading_into, used_or_fault, left_or_empty, Ends, Filled, Read}
+use Rattle.stream.specs.Streams.{Reading, reading, read_on, reading_into, used_or_fault, left_or_empty, Filled, Read}
 
 pub empty_sized : sized empty ≡ true
 empty_sized = eq-eqb (length empty.sheet) 12352 (length_by (cell (λ _. 0) []))

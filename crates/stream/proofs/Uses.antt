@@ -1,12 +1,11 @@
 -- A reading uses no more bytes than there are.
-use Rattle.std.proofs.Common.{◌≡◌, ℕ, zero, suc, ◌+◌, ◌-◌, ◌<◌, ◌≤◌, List, length, drop, Ok, Err, Result, sym, refl, ap, arith, length-drop}
+use Rattle.std.proofs.Common.{◌≡◌, ℕ, zero, suc, ◌+◌, ◌-◌, ◌≤◌, List, length, drop, Ok, Err, Result, refl, ap, arith, length-drop}
 use Rattle.net.specs.declared.net.NetFault.{NetFault}
 use Rattle.net.specs.States.{State, empty}
 use Rattle.net.proofs.Tables.{ok_same, ok_not_err}
 use Rattle.stream.specs.declared.command.Command.{Command}
 use Rattle.stream.specs.declared.command.Command.TheVariants.{Place, Transition, ArcIn, ArcOut, End}
 use Rattle.stream.specs.declared.faults.Cause.{Cause}
-use Rattle.stream.specs.declared.faults.ReadFault.{ReadFault}
 use Rattle.stream.specs.Streams.{Reading, reading, read_on, goes_on, after_step, with_command, with_state, decoded, applied, size}
 use Rattle.stream.proofs.Filling.{decoded_size}
 

@@ -1,8 +1,7 @@
 -- What is written is read.
-use Rattle.std.proofs.Common.{◌≡◌, ℕ, zero, suc, ◌+◌, ◌*◌, ◌/◌, ◌%◌, ◌<◌, ◌≤◌, true, ltb, leb, List, [], ◌∷◌, ◌++◌, length, drop, Ok, Err, Result, sym, refl, ap, ◌∙◌, arith, length-append}
+use Rattle.std.proofs.Common.{◌≡◌, ℕ, zero, suc, ◌+◌, ◌*◌, ◌/◌, ◌%◌, ◌<◌, ◌≤◌, List, [], ◌∷◌, ◌++◌, length, drop, Ok, Err, Result, refl, ap, ◌∙◌, arith, length-append}
 use Rattle.std.proofs.lemmas.List.{append_assoc}
 use Rattle.std.proofs.lemmas.Bool.{lt-ltb, le-leb}
-use Rattle.net.specs.declared.net.Layer.TheVariants as layer
 use Rattle.net.specs.declared.net.NetFault.{NetFault}
 use Rattle.net.specs.Refusals.{Passes}
 use Rattle.net.specs.States.{State, empty}
@@ -12,8 +11,7 @@ use Rattle.stream.specs.declared.command.Command.{Command}
 use Rattle.stream.specs.declared.command.Command.TheVariants.{Place, Transition, ArcIn, ArcOut, End}
 use Rattle.stream.specs.declared.faults.Cause.{Cause}
 use Rattle.stream.specs.declared.faults.ReadFault.{ReadFault}
-use Rattle.stream.specs.Faults.{fault}
-use Rattle.stream.specs.Streams.{command, command_table, decoded, size, applied, with_state, with_command, stepped, Reading, goes_on, after_step, read_on, reading}
+use Rattle.stream.specs.Streams.{command, command_table, decoded, size, applied, with_state, with_command, Reading, after_step, read_on}
 use Rattle.stream.specs.Written.{encoded, written, Plain, AllPlain, ended, done_next, done, ReadsWhatIsWritten}
 use Rattle.stream.proofs.Filling.{behind}
 

@@ -1,5 +1,5 @@
 -- The meaning of a net stream: from a list of bytes to a net and the bytes used, or a fault.
-use Rattle.std.specs.Prelude.{◌≡◌, ℕ, zero, suc, ◌+◌, ◌*◌, Bool, true, cond, List, [], ◌∷◌, length, drop, is_some, Some, None, Ok, Err, Option, Result, ◌==◌, nat_le, nat_lt, slice_index}
+use Rattle.std.specs.Prelude.{◌≡◌, ℕ, zero, suc, ◌+◌, ◌*◌, true, cond, List, [], ◌∷◌, length, drop, is_some, Some, None, Ok, Err, Option, Result, ◌==◌, nat_le, nat_lt, slice_index}
 use Rattle.net.specs.declared.net.Layer.TheVariants as layer
 use Rattle.net.specs.declared.net.NetFault.{NetFault}
 use Rattle.net.specs.declared.net.NetFault.TheVariants.{WrongSize}

@@ -1,4 +1,3 @@
-use Rattle.std.proofs.Common.{arith}
 use Rattle.basics.proofs.Keeping.{flag_set, flag_unset}
 use Rattle.basics.proofs.flags_for.Goals as goal
 

@@ -1,4 +1,4 @@
-use Rattle.std.proofs.Common.{false, not, eqb, get_or, ◌∙◌, arith}
+use Rattle.std.proofs.Common.{false, eqb, get_or, ◌∙◌, arith}
 use Rattle.net.specs.States.{view}
 use Rattle.basics.proofs.Keeping.{keeping_same, done, only_one}
 use Rattle.basics.proofs.keep_transition.Goals as goal

@@ -1,6 +1,6 @@
 use Rattle.std.proofs.lemmas.Result.{err_from_is_err_and}
 use Rattle.net.specs.States.{view}
-use Rattle.theory.specs.Steps.{table, next, remove_implied}
+use Rattle.theory.specs.Steps.{table, remove_implied}
 use Rattle.basics.proofs.Judging.{check_refused}
 use Rattle.basics.proofs.take_implied.Goals as goal
 

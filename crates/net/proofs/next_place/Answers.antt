@@ -1,4 +1,4 @@
-use Rattle.std.proofs.Common.{◌≡◌, sym, refl, ◌∙◌, arith}
+use Rattle.std.proofs.Common.{arith}
 use Rattle.net.proofs.Places.{gap_here, gap_later, no_gap}
 use Rattle.net.proofs.next_place.Goals as goal
 

@@ -1,6 +1,6 @@
 use Rattle.net.specs.States.{view}
 use Rattle.products.specs.Products.{pair_row}
-use Rattle.products.proofs.Filling.{written_none, written_more, written_row}
+use Rattle.products.proofs.Filling.{written_none, written_more}
 use Rattle.products.proofs.write_product.Goals as goal
 
 pub loop-q-init : goal.loop-q-init

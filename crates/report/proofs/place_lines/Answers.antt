@@ -1,4 +1,3 @@
-use Rattle.std.proofs.Common.{arith}
 use Rattle.report.proofs.Below.{below_none, below_more, below_all}
 use Rattle.report.proofs.place_lines.Goals as goal
 

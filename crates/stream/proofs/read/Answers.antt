@@ -1,8 +1,8 @@
-use Rattle.std.proofs.Common.{◌≡◌, sym, ap, ◌∙◌, rules}
+use Rattle.std.proofs.Common.{sym, ap, ◌∙◌, rules}
 use Rattle.std.proofs.lemmas.Result.{err_from_is_err_and}
 use Rattle.net.specs.Views.{drafted}
 use Rattle.net.specs.States.{sized}
-use Rattle.stream.proofs.Reading.{empty_sized, clears, cleared_sized, refused_size, read_whole, given_up}
+use Rattle.stream.proofs.Reading.{empty_sized, clears, refused_size, read_whole, given_up}
 use Rattle.stream.proofs.Writing.{reads_what_is_written}
 use Rattle.stream.proofs.read.Goals as goal
 

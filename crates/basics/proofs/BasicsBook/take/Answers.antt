@@ -1,4 +1,4 @@
-use Rattle.std.proofs.Common.{◌≡◌, ℕ, Option, sym, ap, ◌∙◌}
+use Rattle.std.proofs.Common.{ℕ, Option, sym, ap, ◌∙◌}
 use Rattle.net.specs.States.{view}
 use Rattle.books.specs.Frames.{framed}
 use Rattle.books.specs.House.{plain}
