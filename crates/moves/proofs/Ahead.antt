@@ -1,10 +1,18 @@
--- The marks after firings ahead of time.
-use Rattle.std.proofs.Common.{◌≡◌, ℕ, ◌<◌, ◌≤◌, true, leb}
-use Rattle.std.proofs.lemmas.Bool.{leb-true}
+-- The marks after firings ahead of time, and the last line of the table.
+use Rattle.std.proofs.Common.{◌≡◌, ℕ, ◌<◌, ◌≤◌, Bool, true, ◌&&◌, leb, sym, ◌∙◌}
+use Rattle.std.proofs.lemmas.Bool.{leb-true, ltb-true}
 use Rattle.net.specs.States.{State}
-use Rattle.theory.specs.Tests.{mark_ahead, ahead_fits?}
+use Rattle.theory.specs.Rewrites.{firing_ahead}
+use Rattle.theory.specs.Steps.{there, in_limits?}
+use Rattle.theory.specs.Tests.{mark_ahead, ahead_fits?, rows_fit?}
 use Rattle.theory.proofs.Says.{every_at}
+use Rattle.theory.proofs.Bounds.{ahead_in_limits}
 
 -- They are within their limit.
 pub ahead_below : (s : State) (t k : ℕ) → ahead_fits? s t k ≡ true → (p : ℕ) → p < 64 → mark_ahead s t k p ≤ 4294967295
 ahead_below s t k h p l = leb-true (mark_ahead s t k p) 4294967295 (every_at 64 (λ q. leb (mark_ahead s t k q) 4294967295) h p l)
+
+-- The last line asks whether the weights and they are.
+pub ahead_limits : (s : State) (t k : ℕ) → s.transitions ≤ 96 → there s t ≡ true → (b : Bool) → b ≡ (rows_fit? s && ahead_fits? s t k)
+    → in_limits? (firing_ahead t k s) ≡ b
+ahead_limits s t k few h b e = ahead_in_limits s t k (ltb-true t s.transitions h) few ∙ sym e
