@@ -3,14 +3,13 @@
 
 ghost use Rattle.std.specs.Prelude.{◌≡◌, ℕ, ◌+◌, ◌*◌, ◌<◌, ◌≤◌, true, false, ◌&&◌, length, ◌==◌, ◌≢◌, slice_index, refl};
 ghost use Rattle.net.specs.Refusals.{judged};
-ghost use Rattle.net.specs.Sheets.{most_mark};
-ghost use Rattle.net.specs.States.{view, sized, stands, mark, Answered};
+ghost use Rattle.net.specs.States.{view, sized, stands, Answered};
 ghost use Rattle.books.specs.House.{plain, own_judged};
 ghost use Rattle.moves.specs.Columns.{SumsFit, Added};
 ghost use Rattle.moves.specs.Faults.{from_bytes, from_step, from_net, move_number};
 ghost use Rattle.moves.specs.Moves.{move_width, move_step, move_taken, hidden_at, only_at};
 ghost use Rattle.theory.specs.Rewrites.{firing_ahead, fusing};
-ghost use Rattle.theory.specs.Steps.{table, step, fire_ahead, fuse_places};
+ghost use Rattle.theory.specs.Steps.{table, step, in_limits?, fire_ahead, fuse_places};
 ghost use Rattle.theory.specs.Tests.{source, ahead?, suffices?, carries?, mark_ahead, ahead_fits?, fusion_fits?, rows_fit?};
 ghost use Rattle.books.proofs.Housing.{house_keeps, house_refuses};
 ghost use Rattle.std.proofs.Common.{rules};
@@ -22,7 +21,7 @@ use books::faults::Misfit;
 use books::step::Step;
 use books::{Book, byte_at, check_size, frame, two_bytes};
 use checks::{
-    OnlyConsumer, Source, every_place, every_transition, first_place, is_there, mark_of, put_of,
+    OnlyConsumer, Source, every_place, every_transition, first_place, in_limits, is_there, mark_of, put_of,
     rows_fit, stands_at, supports_at, take_of,
 };
 use conditions::{
@@ -72,7 +71,7 @@ fn suffices(net: &Net<'_>, t: u8, k: u16) -> bool
     k as u64 * take_of(net, t, p) as u64 <= mark_of(net, p) as u64
 }
 
-// Are all numbers within their limits after k firings of t: the weights, which stay, and the marks?
+// Are the weights within their limit, and the marks after k firings of t?
 fn ahead_fits(net: &Net<'_>, t: u8, k: u16) -> bool
     ensures { result ≡ (rows_fit? (view net.now) && ahead_fits? (view net.now) t k) }
 {
@@ -108,12 +107,11 @@ fn carries(net: &Net<'_>, a: u8, p: u8, q: u8) -> bool
     take_of(net, a, p) == 1 && put_of(net, a, q) == 1 && every_place(net, &CarriesAlone { a, p, q })
 }
 
-// Are all numbers within their limits after a fusion: those that stay, and the sums? The marks that stay are.
+// Are all numbers within their limits before a fusion, and the sums of the two places?
 fn fusion_fits(net: &Net<'_>, p: u8, q: u8) -> bool
-    ensures fits { result ≡ (rows_fit? (view net.now) && fusion_fits? (view net.now) p q) }
-    ensures marks { (r : ℕ) → mark (view net.now) r ≤ most_mark }
+    ensures { result ≡ (in_limits? (view net.now) && fusion_fits? (view net.now) p q) }
 {
-    rows_fit(net)
+    in_limits(net)
         && mark_of(net, p) as u64 + mark_of(net, q) as u64 <= MOST_MARK
         && every_transition(net, &WeightsFit { p, q })
 }
