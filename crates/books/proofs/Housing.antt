@@ -67,6 +67,12 @@ house_refused f (Ok x) r y q next before e k a = absurd (ok_not_err a.answer)
 house_refused {F} f (Err x) r y q next before e k a =
     record { answer = e ∙ ap (λ (z : F). Err z) (k ∙ ap f (err_same a.answer)); state = a.state }
 
+-- A step that is taken is taken by the book.
+pub house_passed : {F : Type 0} (f : Refusal → F) (d : Result State Refusal) (next before : State) → Answered {F = Refusal} (Ok tt) next before d
+    → Answered {F = F} (Ok tt) next before (with_fault f d)
+house_passed f (Ok x) next before a = record { answer = refl; state = a.state }
+house_passed f (Err x) next before a = absurd (ok_not_err (sym a.answer))
+
 -- A table refuses alike, whatever it would let pass.
 refused_alike : {X Y : Type 0} (cs : List (Check Refusal)) (x : X) (y : Y) (e : Refusal) → judged cs x ≡ Err e → judged cs y ≡ Err e
 refused_alike [] x y e h = absurd (ok_not_err (sym h))

@@ -7,8 +7,10 @@ ghost use Rattle.theory.specs.Nets.{asks_standstill};
 ghost use Rattle.theory.specs.Steps.{there};
 ghost use Rattle.theory.specs.Tests.{every, some, first, member, those};
 
+mod limits;
 mod neighbours;
 
+pub use limits::{in_limits, rest_fits, rows_fit};
 pub use neighbours::{Consumes, Feeds, OnlyConsumer, Source};
 use net::{Net, Question, flag_at};
 

@@ -1,7 +1,6 @@
 -- The third house book owns 2A, 2B and 2C: agglomerations, which merge the feeders and the consumers of a place.
 use Rattle.std.specs.Prelude.{ℕ, cond, not, List, [], ◌∷◌, Some, None, Result, ◌==◌}
 use Rattle.net.specs.Refusals.{Check, ◌unless◌}
-use Rattle.net.specs.Sheets.{Row}
 use Rattle.net.specs.States.{State, stands, in_support}
 use Rattle.theory.specs.declared.refusal.Refusal.{Refusal}
 use Rattle.theory.specs.declared.refusal.Refusal.TheVariants.{NoPlace, Support, Arcs, Marks}
@@ -27,8 +26,8 @@ merge_step bs =
 abbrev pub first_lines : State → ℕ → List (Check Refusal)
 first_lines s p = NoPlace unless stands s p ∷ Support unless not (in_support s p) ∷ Arcs unless two_sided? s p ∷ []
 
-abbrev pub last_lines : State → ℕ → (ℕ → ℕ → Row) → List (Check Refusal)
-last_lines s p product = Marks unless unmarked? s p ∷ merge_checks s p product
+abbrev pub last_lines : State → ℕ → State → List (Check Refusal)
+last_lines s p next = Marks unless unmarked? s p ∷ merge_checks s p next
 
 -- What the book gives.
 abbrev pub merge_taken : State → List ℕ → Result State MergeFault

@@ -1,7 +1,7 @@
 // The third house book: agglomerations, which merge the feeders and the consumers of a place.
 #![tactic(auto)]
 
-ghost use Rattle.std.specs.Prelude.{◌≡◌, ℕ, true, refl};
+ghost use Rattle.std.specs.Prelude.{◌≡◌, ℕ, true, ◌&&◌, refl};
 ghost use Rattle.net.specs.Refusals.{judged, Passes};
 ghost use Rattle.net.specs.States.{view, sized, Answered};
 ghost use Rattle.books.specs.House.{plain, own_judged};
@@ -10,7 +10,7 @@ ghost use Rattle.merges.specs.Merges.{merge_width, merge_step, merge_taken, firs
 ghost use Rattle.products.specs.Products.{product_row};
 ghost use Rattle.theory.specs.Rewrites.{merging};
 ghost use Rattle.theory.specs.Steps.{table, step, merge_checks, post_agglomerate, pre_agglomerate, free_agglomerate};
-ghost use Rattle.theory.specs.Tests.{two_sided?, post_consumers?, one_consumer?, all_equal?, post_weights?, free_feeders?, pre_feeders?, free_consumers?};
+ghost use Rattle.theory.specs.Tests.{two_sided?, post_consumers?, one_consumer?, all_equal?, post_weights?, free_feeders?, pre_feeders?, free_consumers?, products_fit?, rest_fits?};
 ghost use Rattle.books.proofs.Housing.{house_keeps, house_refuses};
 ghost use Rattle.std.proofs.Common.{rules};
 
@@ -22,7 +22,7 @@ use books::step::Step;
 use books::{Book, byte_at, check_size, frame};
 use checks::{
     Consumes, Feeds, OnlyConsumer, every_transition, first_transition, is_reach_only, mark_of,
-    some_transition, stands_at, supports_at, take_of,
+    rest_fits, some_transition, stands_at, supports_at, take_of,
 };
 use conditions::{
     EqualWeight, FreeConsumer, FreeFeeder, OneSided, PostConsumer, PreFeeder, PutsMultiple,
@@ -111,9 +111,16 @@ fn check_place(net: &Net<'_>, p: u8) -> Result<(), Refusal>
     Ok(())
 }
 
+// Are the numbers that an agglomeration leaves within their limits, and the products?
+fn merging_fits(net: &Net<'_>, kind: Kind, p: u8) -> bool
+    ensures { result ≡ (rest_fits? (view net.now) p && products_fit? (view net.now) p (product_row kind (view net.now) p)) }
+{
+    rest_fits(net, p) && products_fit(net, kind, p)
+}
+
 // The last questions of an agglomeration: the mark of p, the number of products, the transitions afterwards, and the limits.
 fn check_products(net: &Net<'_>, kind: Kind, p: u8) -> Result<(), Refusal>
-    ensures { result ≡ judged (last_lines (view net.now) p (product_row kind (view net.now) p)) tt }
+    ensures { result ≡ judged (last_lines (view net.now) p (merging (product_row kind (view net.now) p) p (view net.now))) tt }
 {
     if mark_of(net, p) > 0 {
         return Err(Refusal::Marks);
@@ -124,7 +131,7 @@ fn check_products(net: &Net<'_>, kind: Kind, p: u8) -> Result<(), Refusal>
     if row_count(net, p) > 96 {
         return Err(Refusal::TooManyRows);
     }
-    if !products_fit(net, kind, p) {
+    if !merging_fits(net, kind, p) {
         return Err(Refusal::PastLimit);
     }
     Ok(())
@@ -177,7 +184,7 @@ fn check_free(net: &Net<'_>, p: u8) -> Result<(), Refusal>
 
 // Replaces the feeders and consumers of p by their products, where the last questions have passed.
 fn merge_products(net: &mut Net<'_>, kind: Kind, p: u8)
-    requires { (sized (view net.old) ≡ true) × (Passes (merge_checks (view net.old) p (product_row kind (view net.old) p))) }
+    requires { (sized (view net.old) ≡ true) × (Passes (merge_checks (view net.old) p (merging (product_row kind (view net.old) p) p (view net.old)))) }
     ensures { view net.new ≡ merging (product_row kind (view net.old) p) p (view net.old) }
 {
     let _ = merge(net, kind, p);

@@ -1,10 +1,28 @@
--- The marks after firings ahead of time.
-use Rattle.std.proofs.Common.{◌≡◌, ℕ, ◌<◌, ◌≤◌, true, leb}
-use Rattle.std.proofs.lemmas.Bool.{leb-true}
+-- The marks after firings ahead of time, and the last line of the table.
+use Rattle.std.proofs.Common.{◌≡◌, ℕ, ◌<◌, ◌≤◌, Bool, true, ◌&&◌, leb, Ok, Result, sym, ◌∙◌}
+use Rattle.std.proofs.lemmas.Bool.{leb-true, ltb-true, and_parts}
+use Rattle.net.specs.Refusals.{judged}
 use Rattle.net.specs.States.{State}
-use Rattle.theory.specs.Tests.{mark_ahead, ahead_fits?}
+use Rattle.net.proofs.Tables.{passed}
+use Rattle.theory.specs.declared.refusal.Refusal.{Refusal}
+use Rattle.theory.specs.Rewrites.{firing_ahead}
+use Rattle.theory.specs.Steps.{there, in_limits?, table, fire_ahead}
+use Rattle.theory.specs.Tests.{mark_ahead, ahead_fits?, rows_fit?}
 use Rattle.theory.proofs.Says.{every_at}
+use Rattle.theory.proofs.Bounds.{ahead_in_limits}
 
 -- They are within their limit.
 pub ahead_below : (s : State) (t k : ℕ) → ahead_fits? s t k ≡ true → (p : ℕ) → p < 64 → mark_ahead s t k p ≤ 4294967295
 ahead_below s t k h p l = leb-true (mark_ahead s t k p) 4294967295 (every_at 64 (λ q. leb (mark_ahead s t k q) 4294967295) h p l)
+
+-- The last line asks whether the weights are within theirs, and they.
+pub ahead_limits : (s : State) (t k : ℕ) → s.transitions ≤ 96 → there s t ≡ true → (b : Bool) → b ≡ (rows_fit? s && ahead_fits? s t k)
+    → in_limits? (firing_ahead t k s) ≡ b
+ahead_limits s t k few h b e = ahead_in_limits s t k (ltb-true t s.transitions h) few ∙ sym e
+
+-- So they are where the whole table passes.
+pub ahead_passed : (s : State) (t k : ℕ) → s.transitions ≤ 96 → ◌≡◌ {A = Result Unit Refusal} (judged (table s (fire_ahead t k)) tt) (Ok tt)
+    → ahead_fits? s t k ≡ true
+ahead_passed s t k few h =
+    let lines = (passed (table s (fire_ahead t k)) tt tt h).0 in
+    (and_parts (rows_fit? s) (ahead_fits? s t k) (sym (ahead_in_limits s t k (ltb-true t s.transitions lines.0) few) ∙ lines.1.1.1.1.0)).1

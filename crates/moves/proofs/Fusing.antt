@@ -2,17 +2,21 @@
 use Rattle.std.proofs.Common.{◌≡◌, ℕ, zero, suc, ◌+◌, ◌-◌, ◌*◌, ◌/◌, ◌%◌, ◌<◌, ◌≤◌, Bool, true, false, cond, ◌&&◌, eqb, leb, ◌≢◌, ◌⊎◌, List, ◌∷◌, map, length, get_or, set, Ok, Err, Result, sym, refl, ap, ◌∙◌, inl, inr, arith}
 use mathlib.Core.Path.{fun_ext}
 use Rattle.std.specs.List.{range_with_len}
-use Rattle.std.proofs.lemmas.Bool.{and_parts, leb-true, cases_lt, lt-ltb, eq-eqb, ne_eqb, cond-true, cond-false}
+use Rattle.std.proofs.lemmas.Bool.{and_parts, eqb-true, leb-true, cases_lt, lt-ltb, eq-eqb, ne_eqb, cond-true, cond-false}
 use Rattle.net.specs.declared.net.NetFault.{NetFault}
 use Rattle.net.specs.declared.net.NetFault.TheVariants.{WrongSize, NoPlace}
 use Rattle.net.specs.Looks.{place_checks}
 use Rattle.net.specs.Refusals.{judged}
 use Rattle.net.specs.Sheets.{Row, row_at, rows_in, part, most_weight}
 use Rattle.net.specs.States.{State, sized, stands, mark, take, put, left, Answered}
+use Rattle.net.proofs.Tables.{passed}
+use Rattle.theory.specs.declared.refusal.Refusal.{Refusal}
 use Rattle.theory.specs.Nexts.{off, fuse}
 use Rattle.theory.specs.Rewrites.{rewritten, off_row, leaving, fuse_row, fusing}
-use Rattle.theory.specs.Tests.{fusion_fits?}
-use Rattle.theory.proofs.Meaning.{part_past}
+use Rattle.theory.specs.Steps.{in_limits?, table, fuse_places}
+use Rattle.theory.specs.Tests.{carries?, fusion_fits?}
+use Rattle.theory.proofs.Bounds.{fusion_in_limits}
+use Rattle.theory.proofs.Meaning.{part_past, take_below, put_below}
 use Rattle.theory.proofs.Places.{off_there, at_each}
 use Rattle.theory.proofs.Says.{every_at}
 use Rattle.moves.specs.Columns.{SumsFit, Added}
@@ -45,6 +49,26 @@ module _ (s : State) (p q : ℕ) (a : p < 64) (b : q < 64) (fits : fusion_fits? 
       go : (k % 2 < 1) ⊎ (1 ≤ k % 2) → get_or s.sheet (64 * suc k + p) 0 + get_or s.sheet (64 * suc k + q) 0 ≤ 4294967295
       go (inl h) = let e = sum (suc k) (64 + 128 * t) (omega arith) in omega (arith, e, (weights t (omega arith)).0)
       go (inr h) = let e = sum (suc k) (128 + 128 * t) (omega arith) in omega (arith, e, (weights t (omega arith)).1)
+
+-- The last line of the table asks whether all numbers are within their limits before the fusion, and the sums.
+module _ (s : State) (p q a : ℕ) (few : s.transitions ≤ 96) where
+  below : carries? s a p q ≡ true → (p < 64) × (q < 64)
+  below h =
+      let x = and_parts (eqb (take s a p) 1) _ h in
+      let y = and_parts (eqb (put s a q) 1) _ x.1 in (
+        take_below s a p (omega (arith, eqb-true (take s a p) 1 x.0)),
+        put_below s a q (omega (arith, eqb-true (put s a q) 1 y.0)),
+      )
+
+  pub fusion_limits : carries? s a p q ≡ true → (c : Bool) → c ≡ (in_limits? s && fusion_fits? s p q) → in_limits? (fusing p q s) ≡ c
+  fusion_limits h c e = let x = below h in fusion_in_limits s p q x.0 x.1 few ∙ sym e
+
+  -- So the sums are where the whole table passes.
+  pub fusion_passed : (b : ℕ) → ◌≡◌ {A = Result Unit Refusal} (judged (table s (fuse_places p q a b)) tt) (Ok tt) → fusion_fits? s p q ≡ true
+  fusion_passed b h =
+      let lines = (passed (table s (fuse_places p q a b)) tt tt h).0 in
+      let x = below (and_parts (carries? s a p q) (carries? s b q p) lines.1.1.1.1.0).0 in
+      (and_parts (in_limits? s) (fusion_fits? s p q) (sym (fusion_in_limits s p q x.0 x.1 few) ∙ lines.1.1.1.1.1.0)).1
 
 -- Rows that are changed alike, one by one.
 rows_alike : (f g : ℕ → Row) (c d : Row → Row) (n a : ℕ) → ((t : ℕ) → a ≤ t → t < a + n → c (f t) ≡ d (g t))

@@ -1,7 +1,7 @@
 // The fourth house book: tokens are moved by firings ahead of time, or by fusing two places.
 #![tactic(auto)]
 
-ghost use Rattle.std.specs.Prelude.{◌≡◌, ℕ, ◌+◌, ◌*◌, ◌<◌, ◌≤◌, true, false, length, ◌==◌, ◌≢◌, slice_index, refl};
+ghost use Rattle.std.specs.Prelude.{◌≡◌, ℕ, ◌+◌, ◌*◌, ◌<◌, ◌≤◌, true, false, ◌&&◌, length, ◌==◌, ◌≢◌, slice_index, refl};
 ghost use Rattle.net.specs.Refusals.{judged};
 ghost use Rattle.net.specs.States.{view, sized, stands, Answered};
 ghost use Rattle.books.specs.House.{plain, own_judged};
@@ -9,8 +9,8 @@ ghost use Rattle.moves.specs.Columns.{SumsFit, Added};
 ghost use Rattle.moves.specs.Faults.{from_bytes, from_step, from_net, move_number};
 ghost use Rattle.moves.specs.Moves.{move_width, move_step, move_taken, hidden_at, only_at};
 ghost use Rattle.theory.specs.Rewrites.{firing_ahead, fusing};
-ghost use Rattle.theory.specs.Steps.{table, step, fire_ahead, fuse_places};
-ghost use Rattle.theory.specs.Tests.{source, ahead?, suffices?, carries?, mark_ahead, ahead_fits?, fusion_fits?};
+ghost use Rattle.theory.specs.Steps.{table, step, in_limits?, fire_ahead, fuse_places};
+ghost use Rattle.theory.specs.Tests.{source, ahead?, suffices?, carries?, mark_ahead, ahead_fits?, fusion_fits?, rows_fit?};
 ghost use Rattle.books.proofs.Housing.{house_keeps, house_refuses};
 ghost use Rattle.std.proofs.Common.{rules};
 
@@ -21,8 +21,8 @@ use books::faults::Misfit;
 use books::step::Step;
 use books::{Book, byte_at, check_size, frame, two_bytes};
 use checks::{
-    OnlyConsumer, Source, every_place, every_transition, first_place, is_there, mark_of, put_of,
-    stands_at, supports_at, take_of,
+    OnlyConsumer, Source, every_place, every_transition, first_place, in_limits, is_there, mark_of, put_of,
+    rows_fit, stands_at, supports_at, take_of,
 };
 use conditions::{
     AheadFits, CarriesAlone, HiddenPuts, MOST_MARK, TakesAlone, WeightsFit, mark_ahead,
@@ -71,6 +71,13 @@ fn suffices(net: &Net<'_>, t: u8, k: u16) -> bool
     k as u64 * take_of(net, t, p) as u64 <= mark_of(net, p) as u64
 }
 
+// Are the weights within their limit, and the marks after k firings of t?
+fn ahead_fits(net: &Net<'_>, t: u8, k: u16) -> bool
+    ensures { result ≡ (rows_fit? (view net.now) && ahead_fits? (view net.now) t k) }
+{
+    rows_fit(net) && every_place(net, &AheadFits { t, k })
+}
+
 // The questions of the step that fires a transition ahead of time.
 fn check_ahead(net: &Net<'_>, t: u8, k: u16) -> Result<(), Refusal>
     ensures { result ≡ judged (table (view net.now) (fire_ahead t k)) tt }
@@ -87,7 +94,7 @@ fn check_ahead(net: &Net<'_>, t: u8, k: u16) -> Result<(), Refusal>
     if !suffices(net, t, k) {
         return Err(Refusal::Marks);
     }
-    if !every_place(net, &AheadFits { t, k }) {
+    if !ahead_fits(net, t, k) {
         return Err(Refusal::PastLimit);
     }
     Ok(())
@@ -100,11 +107,12 @@ fn carries(net: &Net<'_>, a: u8, p: u8, q: u8) -> bool
     take_of(net, a, p) == 1 && put_of(net, a, q) == 1 && every_place(net, &CarriesAlone { a, p, q })
 }
 
-// Are the sums of a fusion within their limits?
+// Are all numbers within their limits before a fusion, and the sums of the two places?
 fn fusion_fits(net: &Net<'_>, p: u8, q: u8) -> bool
-    ensures { result ≡ fusion_fits? (view net.now) p q }
+    ensures { result ≡ (in_limits? (view net.now) && fusion_fits? (view net.now) p q) }
 {
-    mark_of(net, p) as u64 + mark_of(net, q) as u64 <= MOST_MARK
+    in_limits(net)
+        && mark_of(net, p) as u64 + mark_of(net, q) as u64 <= MOST_MARK
         && every_transition(net, &WeightsFit { p, q })
 }
 

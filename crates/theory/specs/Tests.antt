@@ -204,3 +204,16 @@ abbrev pub products_fit? : State → ℕ → (ℕ → ℕ → Row) → Bool
 products_fit? s p product =
     every_transition s (λ h. feeder? s p h ⇒ every_transition s (λ f. consumer? s p f
     ⇒ every_place (λ q. nat_le ((product h f).takes q) most_weight && nat_le ((product h f).puts q) most_weight)))
+
+-- The numbers that a step leaves as they are: the weights of a transition, those of all, and for an agglomeration the marks and the
+-- weights of what neither feeds `p` nor consumes from it.
+abbrev pub row_fits? : State → ℕ → Bool
+row_fits? s t = every_place (λ p. nat_le (take s t p) most_weight && nat_le (put s t p) most_weight)
+
+abbrev pub rows_fit? : State → Bool
+rows_fit? s = every_transition s (row_fits? s)
+
+abbrev pub rest_fits? : State → ℕ → Bool
+rest_fits? s p =
+    every_place (λ q. nat_le (mark s q) most_mark)
+    && every_transition s (λ t. (not (feeder? s p t) && not (consumer? s p t)) ⇒ row_fits? s t)

@@ -3,7 +3,7 @@ use Rattle.std.proofs.lemmas.Result.{err_from_is_err_and}
 use Rattle.net.specs.Refusals.{◌unless◌}
 use Rattle.net.specs.States.{view}
 use Rattle.theory.specs.declared.refusal.Refusal.TheVariants.{Arcs}
-use Rattle.theory.specs.Rewrites.{pre_row}
+use Rattle.theory.specs.Rewrites.{pre_merging}
 use Rattle.theory.specs.Tests.{free_feeders?, pre_feeders?, free_consumers?}
 use Rattle.merges.specs.Merges.{first_lines, last_lines}
 use Rattle.merges.proofs.Judging.{first_refused}
@@ -15,5 +15,5 @@ returns-in_err-check_place c =
     first_refused (first_lines (view c.args.net.now) c.args.p)
     (Arcs unless (free_feeders? (view c.args.net.now) c.args.p && pre_feeders? (view c.args.net.now) c.args.p)
     ∷ Arcs unless free_consumers? (view c.args.net.now) c.args.p
-    ∷ last_lines (view c.args.net.now) c.args.p (pre_row (view c.args.net.now) c.args.p))
+    ∷ last_lines (view c.args.net.now) c.args.p (pre_merging c.args.p (view c.args.net.now)))
     c.from_residual.result e.0 _ e.1 e.2 c.in_err-check_place.ensures
