@@ -1,16 +1,15 @@
 -- A step is taken if and only if all its conditions hold: line by line, its table says what its conditions say in words.
-use Rattle.std.proofs.Common.{◌≡◌, ℕ, ◌*◌, ◌<◌, ◌≤◌, Bool, true, false, not, ◌&&◌, eqb, ltb, leb, ◌≢◌, List, length, Ok, sym, refl, ap, ◌∙◌}
+use Rattle.std.proofs.Common.{◌≡◌, ℕ, true, not, eqb, ◌≢◌, Ok, sym, ap, ◌∙◌}
 use Rattle.std.proofs.lemmas.Bool.{and_parts, and_from, ltb-true, lt-ltb, leb-true, le-leb, not-true, not_from_false}
-use Rattle.net.specs.Refusals.{Check, judged, Passes}
-use Rattle.net.specs.States.{State, stands, in_support}
+use Rattle.net.specs.Refusals.{Passes}
+use Rattle.net.specs.States.{State}
 use Rattle.net.specs.Qualities.{Qualities}
 use Rattle.net.proofs.Tables.{passed, passing}
-use Rattle.theory.specs.declared.refusal.Refusal.{Refusal}
-use Rattle.theory.specs.Tests.{member, feeders, consumers}
+use Rattle.theory.specs.Tests.{member}
 use Rattle.theory.specs.Rewrites.{post_merging, pre_merging, firing_ahead, fusing}
-use Rattle.theory.specs.Steps.{Step, drop_dominated, drop_multiple, drop_composed, drop_draining, drop_starved, keep_sourceless, remove_plentiful, remove_implied, drop_siphon, limit_to, post_agglomerate, pre_agglomerate, free_agglomerate, fire_ahead, fuse_places, merge_checks, table, next, step}
+use Rattle.theory.specs.Steps.{Step, drop_dominated, drop_multiple, drop_composed, drop_draining, drop_starved, keep_sourceless, remove_plentiful, remove_implied, drop_siphon, limit_to, post_agglomerate, pre_agglomerate, free_agglomerate, fire_ahead, fuse_places, merge_checks, table, next}
 use Rattle.theory.specs.Words.{Mergeable, Conditions, StepsAreExact}
-use Rattle.theory.proofs.Says.{Says, eqb_says, not_says}
+use Rattle.theory.proofs.Says.{eqb_says, not_says}
 use Rattle.theory.proofs.Meaning.{dominated_says, multiple_says, composed_says, draining_says, sourceless_says, unfed_says, starved_says, never_loses_says, always_enough_says, implied_says, covers_says, siphon_says, dry_says, sufficient_says, members_stand_says, holds_support_says, two_sided_says, post_consumers_says, post_weights_says, free_feeders_says, free_consumers_says, pre_feeders_says, unmarked_says, carries_says, ahead_says, in_limits_says, member_below, has_member_says}
 
 distinct : (t u : ℕ) → not (eqb t u) ≡ true → t ≢ u

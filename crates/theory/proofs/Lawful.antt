@@ -1,15 +1,14 @@
 -- Every step is lawful: its conditions give a case of the one relation between nets, and its next state has the qualities of a net.
-use Rattle.std.proofs.Common.{◌≡◌, ℕ, ◌<◌, ◌≤◌, Bool, true, false, ◌≢◌, List, length, Ok, sym, refl, ap, ◌∙◌, subst, arith}
+use Rattle.std.proofs.Common.{◌≡◌, ℕ, ◌<◌, Bool, false, ◌≢◌, List, sym, refl, ap, ◌∙◌, subst, arith}
 use Rattle.std.proofs.lemmas.Bool.{both_ways}
-use Rattle.net.specs.States.{State, stands, in_support}
+use Rattle.net.specs.States.{State, in_support}
 use Rattle.net.specs.Qualities.{Qualities}
 use Rattle.net.proofs.Keeps.{flag_below}
 use Rattle.net.proofs.Tables.{passed}
-use Rattle.theory.specs.Nets.{Net}
 use Rattle.theory.specs.Taken.{Taken, dominated, multiple, composed, draining, starved, sourceless, plentiful, implied, siphon, limit, post_agglomeration, pre_agglomeration, free_agglomeration, ahead, fusion}
 use Rattle.theory.specs.Tests.{member}
 use Rattle.theory.specs.Rewrites.{post_merging, pre_merging, firing_ahead, fusing}
-use Rattle.theory.specs.Steps.{Step, drop_dominated, drop_multiple, drop_composed, drop_draining, drop_starved, keep_sourceless, remove_plentiful, remove_implied, drop_siphon, limit_to, post_agglomerate, pre_agglomerate, free_agglomerate, fire_ahead, fuse_places, table, next, step}
+use Rattle.theory.specs.Steps.{Step, drop_dominated, drop_multiple, drop_composed, drop_draining, drop_starved, keep_sourceless, remove_plentiful, remove_implied, drop_siphon, limit_to, post_agglomerate, pre_agglomerate, free_agglomerate, fire_ahead, fuse_places, table, next}
 use Rattle.theory.specs.Laws.{net_of, Supports, Kept, StepsAreLawful}
 use Rattle.theory.specs.Words.{Stands, Outside, Conditions}
 use Rattle.theory.proofs.Meaning.{in_limits_says}

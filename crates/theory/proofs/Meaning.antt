@@ -1,15 +1,14 @@
 -- Each test of a condition says the same as the condition in words.
-use Rattle.std.proofs.Common.{◌≡◌, ℕ, ◌+◌, ◌*◌, ◌/◌, ◌%◌, ◌<◌, ◌≤◌, Bool, true, false, cond, not, ◌&&◌, ◌||◌, eqb, ltb, leb, ◌≢◌, ◌⊎◌, List, length, get_or, sym, refl, ap, ◌∙◌, subst, inl, inr, add-zero, mul-zero, div-add-mod', arith}
+use Rattle.std.proofs.Common.{◌≡◌, ℕ, ◌+◌, ◌*◌, ◌/◌, ◌%◌, ◌<◌, ◌≤◌, Bool, true, false, not, ◌&&◌, eqb, ltb, ◌≢◌, ◌⊎◌, List, length, sym, ap, ◌∙◌, subst, inl, inr, add-zero, mul-zero, div-add-mod', arith}
 use native.Mathlib.Nat.{mul-mod_left}
 use native.Mathlib.Fin
 use Rattle.std.proofs.lemmas.Bool.{both_ways, cases_lt, cases_eq, le-ltb, lt-ltb, ltb-true, leb-true, le-leb, eqb-true, eq-eqb, and_parts, and_from, not-true, not_from_false, false≢true}
 use Rattle.std.proofs.lemmas.List.{get_or_past}
 use Rattle.net.specs.Sheets.{part, most_mark, most_weight}
 use Rattle.net.specs.States.{State, stands, in_support, mark, take, put}
-use Rattle.theory.specs.Nets.{Net}
 use Rattle.theory.specs.Nexts.{Feeder, Consumer}
 use Rattle.theory.specs.Conditions.{Dominated, Multiple, Composed, Draining, Unfed, Starved, Sourceless, NeverLoses, AlwaysEnough, Implied, Covers, TakesFrom, Siphon, Dry, TakesOutside, Sufficient, HoldsSupport, TwoSided, Unmarked, PostConsumers, OneConsumer, AllEqual, PostWeights, FreeFeeders, FreeConsumers, PreFeeders, Ahead, Suffices, Carries}
-use Rattle.theory.specs.Tests.{every, some, first, ◌⇒◌, dominated?, multiple?, composed?, draining?, sourceless?, unfed?, starved?, never_loses?, always_enough?, implied?, covers?, member, takes_from?, puts_into?, siphon?, dry?, outside, falls?, sufficient?, holds_support?, members_stand?, has_member?, feeder?, consumer?, two_sided?, post_consumers?, first_weight, one_consumer?, all_equal?, post_weights?, free_feeders?, free_consumers?, pre_feeders?, unmarked?, source, ahead?, suffices?, carries?}
+use Rattle.theory.specs.Tests.{every, some, first, dominated?, multiple?, composed?, draining?, sourceless?, unfed?, starved?, never_loses?, always_enough?, implied?, covers?, member, takes_from?, puts_into?, siphon?, dry?, outside, falls?, sufficient?, holds_support?, members_stand?, has_member?, feeder?, consumer?, two_sided?, post_consumers?, first_weight, one_consumer?, all_equal?, post_weights?, free_feeders?, free_consumers?, pre_feeders?, unmarked?, source, ahead?, suffices?, carries?}
 use Rattle.theory.specs.Steps.{in_limits?}
 use Rattle.theory.specs.Laws.{net_of, Supports}
 use Rattle.theory.specs.Words.{InLimits}

@@ -1,9 +1,9 @@
 -- Why the three steps are wrong.
-use Rattle.std.proofs.Common.{◌≡◌, ℕ, ◌+◌, ◌-◌, ◌*◌, ◌%◌, ◌<◌, ◌≤◌, Bool, true, false, cond, eqb, ◌≢◌, ◌⊎◌, List, [], ◌∷◌, sym, refl, ap, ◌∙◌, inl, inr, arith}
+use Rattle.std.proofs.Common.{◌≡◌, ℕ, ◌+◌, ◌*◌, ◌%◌, ◌<◌, ◌≤◌, Bool, true, false, ◌≢◌, ◌⊎◌, List, [], ◌∷◌, sym, refl, ap, ◌∙◌, inl, inr, arith}
 use Rattle.std.proofs.lemmas.Bool.{ne_eqb, true≢false, cases_lt, cases_eq}
-use Rattle.theory.specs.Nets.{Marking, Net, Same, Enabled, fire, Run, Reachable, Dead, StandstillAt, SameStandstill}
+use Rattle.theory.specs.Nets.{Marking, Net, Same, Enabled, fire, Run, Reachable, Dead, SameStandstill}
 use Rattle.theory.specs.Nexts.{without, post, fused, Merged, Feeder, Consumer}
-use Rattle.theory.specs.Conditions.{TwoSided, PostConsumers, Carries}
+use Rattle.theory.specs.Conditions.{Carries}
 use Rattle.theory.specs.Mistakes.{only_at, none, NoSupport, idling_net, FactorZeroInventsAStandstill, Splitting, split, left, right, splitting_net, one_each, AlmostPostAgglomerable, SplitTokensAreLost, swapping_net, DroppedMovesInventAStandstill}
 
 pub there_only : (p w : ℕ) → only_at p w p ≡ w

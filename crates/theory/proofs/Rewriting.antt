@@ -1,14 +1,14 @@
 -- The next state of each step holds the step's own next net.
-use Rattle.std.proofs.Common.{◌≡◌, ℕ, zero, suc, ◌+◌, ◌-◌, ◌*◌, ◌/◌, ◌<◌, ◌≤◌, Bool, true, false, cond, not, ◌&&◌, eqb, ltb, ◌≢◌, ◌⊎◌, List, [], ◌∷◌, map, length, filter, refl, ap, ◌∙◌, subst, inl, inr, le_refl, arith}
+use Rattle.std.proofs.Common.{◌≡◌, ℕ, zero, suc, ◌+◌, ◌-◌, ◌*◌, ◌/◌, ◌<◌, ◌≤◌, Bool, true, false, cond, not, ◌&&◌, eqb, ◌≢◌, ◌⊎◌, List, [], ◌∷◌, map, length, filter, refl, ap, ◌∙◌, subst, inl, inr, le_refl, arith}
 use native.Mathlib.Fin
 use native.Mathlib.Decide.{Fin-discrete}
 use mathlib.Core.List.Memᴰ
 use mathlib.Core.List.{Memᴰ}
 use Rattle.std.specs.List.{range_with_len}
-use Rattle.std.proofs.lemmas.Bool.{le-ltb, both_ways, cases_Bool, cases_eq, cases_lt, ne_eqb, cond-false, cond_both, not-true, not_from_false}
+use Rattle.std.proofs.lemmas.Bool.{both_ways, cases_Bool, cases_eq, ne_eqb, cond-false, cond_both}
 use Rattle.std.proofs.lemmas.List.{length-map}
 use Rattle.std.proofs.lemmas.List.FromFn.{length-range_with_len, length-map-range_with_len}
-use Rattle.net.specs.Sheets.{Row, row_at, part}
+use Rattle.net.specs.Sheets.{Row, row_at}
 use Rattle.net.specs.States.{State, mark, take, put, rows}
 use Rattle.theory.specs.Nets.{Net, Finite, SameNet}
 use Rattle.theory.specs.Nexts.{without, off, gone, fuse, fused, inside, limited, fired, Untouched, Product, Merged, post, pre}

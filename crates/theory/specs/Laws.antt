@@ -1,5 +1,5 @@
 -- The net that a state holds, and the law of every step.
-use Rattle.std.specs.Prelude.{◌≡◌, ℕ, ◌<◌, true, List, Ok}
+use Rattle.std.specs.Prelude.{◌≡◌, ℕ, ◌<◌, true, Ok}
 use Rattle.net.specs.States.{State, stands, in_support, mark, take, put}
 use Rattle.net.specs.Qualities.{Qualities}
 use Rattle.theory.specs.Nets.{Net, Law}

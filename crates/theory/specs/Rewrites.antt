@@ -1,5 +1,5 @@
 -- The next states of the steps: other marks, rows and standing places; all 12,352 numbers of the sheet follow from these.
-use Rattle.std.specs.Prelude.{ℕ, ◌+◌, ◌-◌, ◌*◌, ◌/◌, Bool, false, not, ◌&&◌, List, [], ◌∷◌, ◌++◌, map, length, set, ◌==◌, nat_eq, slice_set}
+use Rattle.std.specs.Prelude.{ℕ, ◌+◌, ◌-◌, ◌*◌, ◌/◌, Bool, false, not, ◌&&◌, List, [], ◌∷◌, ◌++◌, map, length, ◌==◌, nat_eq, slice_set}
 use Rattle.std.specs.List.{range_with_len}
 use Rattle.net.specs.Sheets.{Row, row_at, sheet_of}
 use Rattle.net.specs.States.{State, stands, mark, take, put, rows}

@@ -1,6 +1,6 @@
 -- One relation for all steps: from which net to which net a step may lead, under a support and a question.
 -- Each case holds the conditions of its step and its next net, up to the names and the order of the transitions.
-use Rattle.std.specs.Prelude.{◌≡◌, ℕ, ◌≤◌, Bool, true, false, ◌≢◌}
+use Rattle.std.specs.Prelude.{◌≡◌, ℕ, ◌≤◌, Bool, false, ◌≢◌}
 use Rattle.net.specs.declared.net.Question.{Question}
 use Rattle.theory.specs.Nets.{Net, SameNet, asks_reach, asks_standstill}
 use Rattle.theory.specs.Nexts.{without, gone, limited, post, pre, fired, fused}

@@ -1,6 +1,6 @@
 -- The conditions of the steps as tests that compute, of a state. Beside each stands, in the proofs, that it says the same as the
 -- condition in words of the net that the state holds.
-use Rattle.std.specs.Prelude.{ℕ, zero, suc, ◌+◌, ◌-◌, ◌*◌, ◌/◌, ◌%◌, ◌^◌, Bool, true, false, cond, not, ◌&&◌, ◌||◌, nat_lt, nat_le, List, [], ◌∷◌, length, filter, ◌==◌, nat_eq, slice_index}
+use Rattle.std.specs.Prelude.{ℕ, zero, suc, ◌+◌, ◌-◌, ◌*◌, ◌/◌, ◌%◌, ◌^◌, Bool, true, false, cond, not, ◌&&◌, ◌||◌, nat_lt, nat_le, List, filter, ◌==◌, nat_eq, slice_index}
 use Rattle.std.specs.List.{range_with_len}
 use Rattle.net.specs.Sheets.{Row, most_mark, most_weight}
 use Rattle.net.specs.States.{State, stands, in_support, mark, take, put}

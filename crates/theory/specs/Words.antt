@@ -1,6 +1,6 @@
 -- The conditions of each step in words, and exactness: a step is taken if and only if all its conditions hold, and then leads to
 -- its next state.
-use Rattle.std.specs.Prelude.{◌≡◌, ℕ, ◌*◌, ◌<◌, ◌≤◌, Bool, true, false, ◌≢◌, List, length, Ok}
+use Rattle.std.specs.Prelude.{◌≡◌, ℕ, ◌*◌, ◌<◌, ◌≤◌, Bool, true, false, ◌≢◌, length, Ok}
 use Rattle.net.specs.Sheets.{most_transitions, most_weight, most_mark}
 use Rattle.net.specs.States.{State, stands, in_support, mark, take, put}
 use Rattle.net.specs.Qualities.{Qualities}

@@ -1,4 +1,4 @@
-use Rattle.std.proofs.Common.{◌≡◌, ℕ, ◌+◌, Bool, length, sym, ap, ◌∙◌, arith}
+use Rattle.std.proofs.Common.{◌≡◌, ℕ, Bool, length, sym, ap, ◌∙◌, arith}
 use Rattle.net.specs.States.{view}
 use Rattle.theory.specs.Tests.{those}
 use Rattle.checks.proofs.Those.{count_none, count_kept, count_left}
