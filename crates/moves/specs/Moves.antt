@@ -1,5 +1,5 @@
 -- The fourth house book owns 2D and 2E: tokens are moved by firings ahead of time, or by fusing two places.
-use Rattle.std.specs.Prelude.{ℕ, Bool, cond, not, ◌&&◌, List, Some, None, Option, Result, ◌==◌, nat_eq, nat_lt}
+use Rattle.std.specs.Prelude.{ℕ, Bool, cond, not, ◌&&◌, List, Some, None, Result, ◌==◌, nat_eq, nat_lt}
 use Rattle.net.specs.States.{State, in_support, take, put}
 use Rattle.theory.specs.Steps as steps
 use Rattle.theory.specs.Tests.{◌⇒◌, every_place, every_transition}
