@@ -21,8 +21,8 @@ use books::faults::Misfit;
 use books::step::Step;
 use books::{Book, byte_at, check_size, frame, two_bytes};
 use checks::{
-    OnlyConsumer, Source, every_place, every_transition, first_place, in_limits, is_there, mark_of, put_of,
-    rows_fit, stands_at, supports_at, take_of,
+    OnlyConsumer, Source, every_place, every_transition, first_place, in_limits, is_there, mark_of,
+    put_of, rows_fit, stands_at, supports_at, take_of,
 };
 use conditions::{
     AheadFits, CarriesAlone, HiddenPuts, MOST_MARK, TakesAlone, WeightsFit, mark_ahead,
