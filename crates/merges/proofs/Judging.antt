@@ -1,5 +1,5 @@
 -- Tables in parts, and the steps of the book.
-use Rattle.std.proofs.Common.{◌≡◌, ℕ, Bool, true, false, cond, eqb, List, [], ◌∷◌, ◌++◌, is_some, Ok, Err, Result, sym, refl, ap, ◌∙◌}
+use Rattle.std.proofs.Common.{◌≡◌, ℕ, Bool, true, false, cond, eqb, List, [], ◌∷◌, ◌++◌, is_some, Err, Result, sym, refl, ap, ◌∙◌}
 use Rattle.net.specs.Refusals.{Check, judged}
 use Rattle.net.proofs.Tables.{ok_not_err, err_same}
 use Rattle.theory.specs.declared.refusal.Refusal.{Refusal}

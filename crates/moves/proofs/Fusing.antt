@@ -1,5 +1,5 @@
 -- Two places are fused: the numbers of one are added to those of the other, and then it goes.
-use Rattle.std.proofs.Common.{◌≡◌, ℕ, zero, suc, ◌+◌, ◌-◌, ◌*◌, ◌/◌, ◌%◌, ◌<◌, ◌≤◌, Bool, true, false, cond, ◌&&◌, eqb, leb, ◌≢◌, ◌⊎◌, List, ◌∷◌, map, length, get_or, set, Ok, Err, Result, sym, refl, ap, ◌∙◌, inl, inr, arith}
+use Rattle.std.proofs.Common.{◌≡◌, ℕ, zero, suc, ◌+◌, ◌*◌, ◌/◌, ◌%◌, ◌<◌, ◌≤◌, Bool, true, false, cond, ◌&&◌, eqb, leb, ◌≢◌, ◌⊎◌, List, ◌∷◌, map, length, get_or, set, Ok, Err, Result, sym, refl, ap, ◌∙◌, inl, inr, arith}
 use mathlib.Core.Path.{fun_ext}
 use Rattle.std.specs.List.{range_with_len}
 use Rattle.std.proofs.lemmas.Bool.{and_parts, eqb-true, leb-true, cases_lt, lt-ltb, eq-eqb, ne_eqb, cond-true, cond-false}
@@ -8,7 +8,7 @@ use Rattle.net.specs.declared.net.NetFault.TheVariants.{WrongSize, NoPlace}
 use Rattle.net.specs.Looks.{place_checks}
 use Rattle.net.specs.Refusals.{judged}
 use Rattle.net.specs.Sheets.{Row, row_at, rows_in, part, most_weight}
-use Rattle.net.specs.States.{State, sized, stands, mark, take, put, left, Answered}
+use Rattle.net.specs.States.{State, stands, mark, take, put, left, Answered}
 use Rattle.net.proofs.Tables.{passed}
 use Rattle.theory.specs.declared.refusal.Refusal.{Refusal}
 use Rattle.theory.specs.Nexts.{off, fuse}

@@ -1,4 +1,4 @@
-use Rattle.std.proofs.Common.{◌≡◌, ◌≤◌, true, false, sym, ◌∙◌, arith, rules}
+use Rattle.std.proofs.Common.{◌≡◌, ◌≤◌, true, false, ◌∙◌, arith, rules}
 use Rattle.net.specs.States.{view}
 use Rattle.theory.specs.Rewrites.{merging}
 use Rattle.theory.specs.Steps.{in_limits?}

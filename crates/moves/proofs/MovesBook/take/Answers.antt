@@ -1,8 +1,8 @@
-use Rattle.std.proofs.Common.{◌≡◌, ℕ, Bool, true, false, cond, eqb, List, is_some, Option, sym, refl, ap, ◌∙◌}
+use Rattle.std.proofs.Common.{◌≡◌, ℕ, Bool, true, false, cond, eqb, is_some, Option, sym, refl, ap, ◌∙◌}
 use Rattle.net.specs.States.{view}
 use Rattle.theory.specs.Steps as steps
 use Rattle.books.specs.Frames.{framed}
-use Rattle.books.specs.House.{one, two, byte_of, plain}
+use Rattle.books.specs.House.{one, byte_of, plain}
 use Rattle.books.proofs.Housing.{house_judged}
 use Rattle.moves.specs.Faults.{from_net, from_bytes, from_step}
 use Rattle.moves.specs.Moves.{move_width, move_step}
