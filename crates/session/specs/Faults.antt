@@ -26,6 +26,12 @@ bytes_misfit e b n = refused (causes.Bytes e) layers.Session b n
 abbrev pub book_refuses : {F : Type 0} → F → ℕ → ℕ → SessionFault F
 book_refuses e b n = refused (causes.Book e) layers.Book b n
 
+-- No book refuses.
+abbrev pub IsBookless : {F : Type 0} → Cause F → Type 0
+IsBookless (causes.Net e) = Unit {0}
+IsBookless (causes.Bytes e) = Unit {0}
+IsBookless (causes.Book e) = ⊥
+
 -- Lower faults with their places.
 abbrev pub from_net : {F : Type 0} → Placed NetFault → SessionFault F
 from_net p = refused (causes.Net p.fault) p.layer p.byte p.count

@@ -13,15 +13,15 @@ pub enum Cause<F> {
     Book(F),
 }
 
-// The fault of no book: a look asks none.
+// The fault of no book: a look asks none, and its refusals never hold it.
 #[derive(Clone, Copy)]
-pub enum NoBook {}
+pub struct NoBook;
 
 impl Numbered for NoBook {
     ghost number_of = { λ _. 0 };
 
     fn number(&self) -> u8 {
-        match *self {}
+        0
     }
 }
 

@@ -1,10 +1,11 @@
 // A session: a drafted net is opened, reduced by the steps of a book, looked at, and closed.
 #![tactic(auto)]
 
-ghost use Rattle.std.specs.Prelude.{◌≡◌, ◌+◌, ◌<◌, true, length, Ok, Err, Result};
+ghost use Rattle.std.specs.Prelude.{◌≡◌, ◌+◌, ◌<◌, true, length, Ok, Err, Result, IfErr};
 ghost use Rattle.net.specs.States.{view, sized, Answered};
 ghost use Rattle.net.specs.Views.{drafted};
 ghost use Rattle.session.specs.Views.{opened};
+ghost use Rattle.session.specs.Faults.{IsBookless};
 ghost use Rattle.session.specs.Feeds.{meaning, front, Within, proposed, stepped, fed_from, fed, looked_at, StepAnswered, FeedAnswered, PlaceWithin};
 ghost use Rattle.session.specs.Calls.{Faithful};
 
@@ -121,7 +122,8 @@ impl<'a> Session<'a> {
 
     // One number of the net.
     pub fn look(&self, at: Look) -> Result<u32, SessionFault<NoBook>>
-        ensures { result ≡ looked_at (opened self.now) at }
+        ensures exact { result ≡ looked_at (opened self.now) at }
+        ensures bookless { IfErr result (λ f. IsBookless f.cause) }
     {
         let number = at_place(self.net.look(at), Layer::Net, 0, 0)?;
         Ok(number)
