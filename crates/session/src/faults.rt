@@ -13,9 +13,9 @@ pub enum Cause<F> {
     Book(F),
 }
 
-// The fault of no book: a look asks none, and its refusals never hold it.
+// The fault of no book: a look asks none, and its refusals never hold it. No one outside can make it.
 #[derive(Clone, Copy)]
-pub struct NoBook;
+pub struct NoBook(());
 
 impl Numbered for NoBook {
     ghost number_of = { λ _. 0 };
