@@ -1,31 +1,32 @@
 // The first house book: steps that drop one transition, keep one, or remove one place.
 #![tactic(auto)]
 
-ghost use Rattle.std.specs.Prelude.{◌≡◌, ℕ, ◌+◌, ◌*◌, ◌<◌, true, false, not, if◌then◌else◌, nat_eq, slice_index_or, refl};
-ghost use Rattle.net.specs.Refusals.{judged};
-ghost use Rattle.net.specs.States.{view, sized, stands, Answered};
-ghost use Rattle.books.specs.House.{plain};
-ghost use Rattle.basics.specs.Basics.{basic_width, basic_step, basic_judged, basic_taken};
-ghost use Rattle.theory.specs.Nets.{asks_reach, asks_standstill};
+ghost use Rattle.std.specs.Prelude.{◌≡◌, true, refl};
+ghost use Rattle.net.specs.Refusals.{judged, Passes};
+ghost use Rattle.net.specs.Looks.{sheet_checks};
+ghost use Rattle.net.specs.States.{view, stands, Answered};
+ghost use Rattle.basics.specs.Basics.{basic_width, basic_step, basic_taken};
+ghost use Rattle.books.specs.Faults.{book_number, from_net, from_bytes, from_step};
+ghost use Rattle.books.specs.House.{plain, owns, own_checked};
 ghost use Rattle.theory.specs.Rewrites.{dropping, keeping_only, leaving};
-ghost use Rattle.theory.specs.Steps.{table, step, drop_dominated, drop_multiple, drop_composed, drop_draining, drop_starved, keep_sourceless, remove_plentiful, remove_implied};
+ghost use Rattle.theory.specs.Steps.{refusal_number, table, next, drop_dominated, drop_multiple, drop_composed, drop_draining, drop_starved, keep_sourceless, remove_plentiful, remove_implied};
 ghost use Rattle.books.proofs.Housing.{house_keeps, house_refuses};
-ghost use Rattle.basics.specs.Faults.{from_net, from_bytes, from_step, basic_number};
 ghost use Rattle.std.proofs.Common.{rules};
 
-mod faults;
-mod tests;
+mod conditions;
+mod kept;
 
-use books::faults::Misfit;
+use books::faults::{BookFault, Misfit};
 use books::step::Step;
-use books::{Book, byte_at, check_size, frame, two_bytes};
-use checks::{every_place, every_transition, is_there, mark_of, stands_at, supports_at, take_of};
-pub use faults::BasicFault;
-use net::{Net, Question};
-use rewrites::{keep_transitions, remove_place};
-use tests::{
-    AlwaysEnough, Composed, Dominated, Draining, Implied, Multiple, NeverLoses, Sourceless, Unfed,
+use books::{Book, byte_at, frame, two_bytes};
+use checks::{asks_reach, asks_standstill, is_there, stands_at, supports_at};
+use conditions::{
+    covers, has_always_enough, is_composed, is_dominated, is_draining, is_implied, is_multiple,
+    is_sourceless, is_starved, is_unfed, never_loses,
 };
+use kept::{Only, Other};
+use net::{Net, NetFault};
+use rewrites::{keep_where, remove_place};
 use theory::Refusal;
 
 // The questions of the step that drops a dominated transition.
@@ -38,7 +39,7 @@ fn check_dominated(net: &Net<'_>, t: u8, u: u8) -> Result<(), Refusal>
     if t == u {
         return Err(Refusal::NotDistinct);
     }
-    if !every_place(net, &Dominated { t, u }) {
+    if !is_dominated(net, t, u) {
         return Err(Refusal::Arcs);
     }
     Ok(())
@@ -57,7 +58,7 @@ fn check_multiple(net: &Net<'_>, t: u8, u: u8, k: u16) -> Result<(), Refusal>
     if k == 0 {
         return Err(Refusal::Nothing);
     }
-    if !every_place(net, &Multiple { t, u, k }) {
+    if !is_multiple(net, t, u, k) {
         return Err(Refusal::Arcs);
     }
     Ok(())
@@ -73,29 +74,10 @@ fn check_composed(net: &Net<'_>, t: u8, u: u8, v: u8) -> Result<(), Refusal>
     if t == u || t == v {
         return Err(Refusal::NotDistinct);
     }
-    if !every_place(net, &Composed { t, u, v }) {
+    if !is_composed(net, t, u, v) {
         return Err(Refusal::Arcs);
     }
     Ok(())
-}
-
-// Is the question of standstill open? Is that of reach?
-fn asks_standstill(net: &Net<'_>) -> bool
-    ensures { result ≡ asks_standstill (view net.now).question }
-{
-    match net.shape.question {
-        Question::Reach => false,
-        Question::Standstill | Question::Both => true,
-    }
-}
-
-fn asks_reach(net: &Net<'_>) -> bool
-    ensures { result ≡ asks_reach (view net.now).question }
-{
-    match net.shape.question {
-        Question::Standstill => false,
-        Question::Reach | Question::Both => true,
-    }
 }
 
 // The questions of the step that drops a draining transition.
@@ -108,7 +90,7 @@ fn check_draining(net: &Net<'_>, t: u8) -> Result<(), Refusal>
     if !is_there(net, t) {
         return Err(Refusal::NoTransition);
     }
-    if !every_place(net, &Draining { t }) {
+    if !is_draining(net, t) {
         return Err(Refusal::Arcs);
     }
     Ok(())
@@ -124,10 +106,10 @@ fn check_starved(net: &Net<'_>, t: u8, p: u8) -> Result<(), Refusal>
     if !stands_at(net, p) {
         return Err(Refusal::NoPlace);
     }
-    if !every_transition(net, &Unfed { p }) {
+    if !is_unfed(net, p) {
         return Err(Refusal::Arcs);
     }
-    if take_of(net, t, p) <= mark_of(net, p) {
+    if !is_starved(net, t, p) {
         return Err(Refusal::Marks);
     }
     Ok(())
@@ -143,7 +125,7 @@ fn check_sourceless(net: &Net<'_>, t: u8) -> Result<(), Refusal>
     if !is_there(net, t) {
         return Err(Refusal::NoTransition);
     }
-    if !every_place(net, &Sourceless { t }) {
+    if !is_sourceless(net, t) {
         return Err(Refusal::Arcs);
     }
     Ok(())
@@ -159,10 +141,10 @@ fn check_plentiful(net: &Net<'_>, p: u8) -> Result<(), Refusal>
     if supports_at(net, p) {
         return Err(Refusal::Support);
     }
-    if !every_transition(net, &NeverLoses { p }) {
+    if !never_loses(net, p) {
         return Err(Refusal::Arcs);
     }
-    if !every_transition(net, &AlwaysEnough { p }) {
+    if !has_always_enough(net, p) {
         return Err(Refusal::Marks);
     }
     Ok(())
@@ -184,128 +166,35 @@ fn check_implied(net: &Net<'_>, p: u8, q: u8, k: u16) -> Result<(), Refusal>
     if supports_at(net, p) {
         return Err(Refusal::Support);
     }
-    if !every_transition(net, &Implied { p, q, k }) {
+    if !is_implied(net, p, q, k) {
         return Err(Refusal::Arcs);
     }
-    if (mark_of(net, p) as u64) < k as u64 * mark_of(net, q) as u64 {
+    if !covers(net, p, q, k) {
         return Err(Refusal::Marks);
     }
     Ok(())
 }
 
-// Flags of the transitions: `own` for one of them, and the other value for all others.
-fn flags_for(t: u8, own: bool) -> [bool; 96]
-    ensures { (i : ℕ) → i < 96 → slice_index_or result i false ≡ (if nat_eq i t then own else not own) }
-{
-    let mut flags = [!own; 96];
-    if t < 96 {
-        flags[t as usize] = own;
-    }
-    flags
-}
-
 // Drops one transition.
-fn drop_transition(net: &mut Net<'_>, t: u8)
-    requires { sized (view net.old) ≡ true }
-    ensures { view net.new ≡ dropping t (view net.old) }
+fn drop_transition(net: &mut Net<'_>, t: u8) -> Result<(), NetFault>
+    ensures { Answered result (view net.new) (view net.old) (judged (sheet_checks (view net.old)) (dropping t (view net.old))) }
 {
-    let _ = keep_transitions(net, &flags_for(t, false));
+    keep_where(net, &Other { t })
 }
 
 // Drops all transitions but one.
-fn keep_transition(net: &mut Net<'_>, t: u8)
-    requires { sized (view net.old) ≡ true }
-    ensures { view net.new ≡ keeping_only t (view net.old) }
+fn keep_transition(net: &mut Net<'_>, t: u8) -> Result<(), NetFault>
+    ensures { Answered result (view net.new) (view net.old) (judged (sheet_checks (view net.old)) (keeping_only t (view net.old))) }
 {
-    let _ = keep_transitions(net, &flags_for(t, true));
+    keep_where(net, &Only { t })
 }
 
 // Removes a place that stands.
-fn leave_place(net: &mut Net<'_>, p: u8)
-    requires { (sized (view net.old) ≡ true) × (stands (view net.old) p ≡ true) }
-    ensures { view net.new ≡ leaving p (view net.old) }
+fn leave_place(net: &mut Net<'_>, p: u8) -> Result<(), NetFault>
+    requires { stands (view net.old) p ≡ true }
+    ensures { Answered result (view net.new) (view net.old) (judged (sheet_checks (view net.old)) (leaving p (view net.old))) }
 {
-    let _ = remove_place(net, p as usize);
-}
-
-// Drops a dominated transition, if its conditions hold.
-fn take_dominated(net: &mut Net<'_>, t: u8, u: u8) -> Result<(), Refusal>
-    requires { sized (view net.old) ≡ true }
-    ensures { Answered result (view net.new) (view net.old) (step (view net.old) (drop_dominated t u)) }
-{
-    check_dominated(net, t, u)?;
-    drop_transition(net, t);
-    Ok(())
-}
-
-// Drops a multiple of a transition, if its conditions hold.
-fn take_multiple(net: &mut Net<'_>, t: u8, u: u8, k: u16) -> Result<(), Refusal>
-    requires { sized (view net.old) ≡ true }
-    ensures { Answered result (view net.new) (view net.old) (step (view net.old) (drop_multiple t u k)) }
-{
-    check_multiple(net, t, u, k)?;
-    drop_transition(net, t);
-    Ok(())
-}
-
-// Drops a transition that two others compose, if its conditions hold.
-fn take_composed(net: &mut Net<'_>, t: u8, u: u8, v: u8) -> Result<(), Refusal>
-    requires { sized (view net.old) ≡ true }
-    ensures { Answered result (view net.new) (view net.old) (step (view net.old) (drop_composed t u v)) }
-{
-    check_composed(net, t, u, v)?;
-    drop_transition(net, t);
-    Ok(())
-}
-
-// Drops a draining transition, if its conditions hold.
-fn take_draining(net: &mut Net<'_>, t: u8) -> Result<(), Refusal>
-    requires { sized (view net.old) ≡ true }
-    ensures { Answered result (view net.new) (view net.old) (step (view net.old) (drop_draining t)) }
-{
-    check_draining(net, t)?;
-    drop_transition(net, t);
-    Ok(())
-}
-
-// Drops a starved transition, if its conditions hold.
-fn take_starved(net: &mut Net<'_>, t: u8, p: u8) -> Result<(), Refusal>
-    requires { sized (view net.old) ≡ true }
-    ensures { Answered result (view net.new) (view net.old) (step (view net.old) (drop_starved t p)) }
-{
-    check_starved(net, t, p)?;
-    drop_transition(net, t);
-    Ok(())
-}
-
-// Keeps only a transition without a source, if its conditions hold.
-fn take_sourceless(net: &mut Net<'_>, t: u8) -> Result<(), Refusal>
-    requires { sized (view net.old) ≡ true }
-    ensures { Answered result (view net.new) (view net.old) (step (view net.old) (keep_sourceless t)) }
-{
-    check_sourceless(net, t)?;
-    keep_transition(net, t);
-    Ok(())
-}
-
-// Removes a place that never lacks tokens, if its conditions hold.
-fn take_plentiful(net: &mut Net<'_>, p: u8) -> Result<(), Refusal>
-    requires { sized (view net.old) ≡ true }
-    ensures { Answered result (view net.new) (view net.old) (step (view net.old) (remove_plentiful p)) }
-{
-    check_plentiful(net, p)?;
-    leave_place(net, p);
-    Ok(())
-}
-
-// Removes a place that another implies, if its conditions hold.
-fn take_implied(net: &mut Net<'_>, p: u8, q: u8, k: u16) -> Result<(), Refusal>
-    requires { sized (view net.old) ≡ true }
-    ensures { Answered result (view net.new) (view net.old) (step (view net.old) (remove_implied p q k)) }
-{
-    check_implied(net, p, q, k)?;
-    leave_place(net, p);
-    Ok(())
+    remove_place(net, usize::from(p))
 }
 
 // The operand width for a first byte that this book owns.
@@ -321,7 +210,7 @@ fn basic_width(first: u8) -> Option<u8>
     }
 }
 
-// The step in the bytes of a whole step.
+// The step in the bytes of a whole step. Its first byte is a number here and in the widths: a kind between byte and step would name each step once more.
 fn decode<'a>(bytes: &'a [u8]) -> Step<'a>
     ensures { plain result ≡ basic_step bytes.now }
 {
@@ -339,28 +228,49 @@ fn decode<'a>(bytes: &'a [u8]) -> Step<'a>
     }
 }
 
-// Judges and takes a decoded step of this book; one of another book is unknown here.
-fn apply(net: &mut Net<'_>, step: Step<'_>) -> Result<(), BasicFault>
-    requires { sized (view net.old) ≡ true }
-    ensures { Answered result (view net.new) (view net.old) (basic_judged (view net.old) (plain step.entry)) }
+// The questions of a decoded step of this book; one of another book is unknown here.
+fn check(net: &Net<'_>, step: Step<'_>) -> Result<(), BasicFault>
+    ensures { result ≡ own_checked from_bytes from_step basic_width (view net.now) (plain step.entry) }
 {
     match step {
-        Step::DropDominated(t, u) => take_dominated(net, t, u)?,
-        Step::DropMultiple(t, u, k) => take_multiple(net, t, u, k)?,
-        Step::DropComposed(t, u, v) => take_composed(net, t, u, v)?,
-        Step::DropDraining(t) => take_draining(net, t)?,
-        Step::DropStarved(t, p) => take_starved(net, t, p)?,
-        Step::KeepSourceless(t) => take_sourceless(net, t)?,
-        Step::RemovePlentiful(p) => take_plentiful(net, p)?,
-        Step::RemoveImplied(p, q, k) => take_implied(net, p, q, k)?,
-        _ => return Err(BasicFault::Bytes(Misfit::Unknown)),
+        Step::DropDominated(t, u) => check_dominated(net, t, u)?,
+        Step::DropMultiple(t, u, k) => check_multiple(net, t, u, k)?,
+        Step::DropComposed(t, u, v) => check_composed(net, t, u, v)?,
+        Step::DropDraining(t) => check_draining(net, t)?,
+        Step::DropStarved(t, p) => check_starved(net, t, p)?,
+        Step::KeepSourceless(t) => check_sourceless(net, t)?,
+        Step::RemovePlentiful(p) => check_plentiful(net, p)?,
+        Step::RemoveImplied(p, q, k) => check_implied(net, p, q, k)?,
+        _ => return Err(BookFault::Bytes(Misfit::Unknown)),
     }
     Ok(())
 }
 
+// Takes a step of this book whose questions have passed.
+fn rewrite(net: &mut Net<'_>, step: Step<'_>) -> Result<(), NetFault>
+    requires own { owns basic_width (plain step) ≡ true }
+    requires passes { Passes (table (view net.old) (plain step)) }
+    ensures { Answered result (view net.new) (view net.old) (judged (sheet_checks (view net.old)) (next (view net.old) (plain step.entry))) }
+{
+    match step {
+        Step::DropDominated(t, _)
+        | Step::DropMultiple(t, _, _)
+        | Step::DropComposed(t, _, _)
+        | Step::DropDraining(t)
+        | Step::DropStarved(t, _) => drop_transition(net, t),
+        Step::KeepSourceless(t) => keep_transition(net, t),
+        Step::RemovePlentiful(p) | Step::RemoveImplied(p, _, _) => leave_place(net, p),
+        _ => Ok(()),
+    }
+}
+
 // The first house book.
-#[derive(Clone, Copy)]
+// It implements `Book` itself: one impl for all four would need a public trait whose calls ask something of their caller.
+#[derive(Clone, Copy, Debug, PartialEq, Eq)]
 pub struct Basics;
+
+// Why this book, which owns the bytes from 20, refuses a step.
+pub type BasicFault = BookFault<Refusal, 0x20>;
 
 impl Book for Basics {
     type Fault = BasicFault;
@@ -373,15 +283,18 @@ impl Book for Basics {
 
     ghost narrow = { Prim.search rules };
 
-    ghost refuses = { house_refuses from_net from_bytes from_step basic_width basic_step basic_number (λ e. refl) };
+    ghost refuses = { house_refuses from_net from_bytes from_step basic_width basic_step (book_number refusal_number) (λ e. refl) };
 
     fn width(&self, first: u8) -> Option<u8> {
         basic_width(first)
     }
 
     fn take(&self, net: &mut Net<'_>, step: &[u8]) -> Result<(), BasicFault> {
-        check_size(net)?;
+        net.check_size()?;
         frame(basic_width(byte_at(step, 0)), step)?;
-        apply(net, decode(step))
+        let step = decode(step);
+        check(net, step)?;
+        rewrite(net, step)?;
+        Ok(())
     }
 }

@@ -1,49 +1,32 @@
 // A customer's book, written against the interface and the public reads alone. Its step, 80 p k, asks that place p has at least k
 // tokens at the start, and changes nothing.
 ghost use Rattle.std.specs.Prelude.{◌≡◌, ℕ};
-ghost use Rattle.book_tests.specs.Checkpoints.{checkpoint_width, checkpoint_taken, checkpoint_number, from_net, from_bytes};
+ghost use Rattle.net.specs.Refusals.{judged};
+ghost use Rattle.net.specs.States.{view};
+ghost use Rattle.book_tests.specs.Checkpoints.{checkpoint_number, checkpoint_width, checkpoint_table, checkpoint_taken};
 ghost use Rattle.book_tests.specs.CheckpointsLemmas.{checkpoint_keeps, checkpoint_refuses};
 ghost use Rattle.std.proofs.Common.{rules};
 
-use books::faults::{Misfit, Numbered};
-use books::{Book, byte_at, check_size, frame, two_bytes};
+use books::faults::{BookFault, Numbered};
+use books::{Book, byte_at, frame, two_bytes};
 use checks::{mark_of, stands_at};
-use net::{Net, NetFault};
+use net::Net;
 
-#[derive(Clone, Copy)]
-pub enum CheckpointFault {
-    Net(NetFault),
-    Bytes(Misfit),
+// Why a checkpoint is refused: its place does not stand, or has too few tokens.
+#[derive(Clone, Copy, Debug, PartialEq, Eq)]
+pub enum CheckpointRefusal {
     Gone,
     Low,
 }
 
-impl Numbered for CheckpointFault {
+impl Numbered for CheckpointRefusal {
     ghost number_of = { checkpoint_number };
 
     fn number(&self) -> u8 {
         match self {
-            CheckpointFault::Net(fault) => fault.number(),
-            CheckpointFault::Bytes(misfit) => misfit.number(),
-            CheckpointFault::Gone => 100,
-            CheckpointFault::Low => 101,
+            CheckpointRefusal::Gone => 100,
+            CheckpointRefusal::Low => 101,
         }
-    }
-}
-
-impl From<NetFault> for CheckpointFault {
-    ghost from_gives = { λ e r. r ≡ from_net e };
-
-    fn from(e: NetFault) -> CheckpointFault {
-        CheckpointFault::Net(e)
-    }
-}
-
-impl From<Misfit> for CheckpointFault {
-    ghost from_gives = { λ e r. r ≡ from_bytes e };
-
-    fn from(e: Misfit) -> CheckpointFault {
-        CheckpointFault::Bytes(e)
     }
 }
 
@@ -51,11 +34,27 @@ impl From<Misfit> for CheckpointFault {
 fn checkpoint_width(first: u8) -> Option<u8>
     ensures { result ≡ checkpoint_width first }
 {
-    if first == 0x80 { Some(3) } else { None }
+    (first == 0x80).then_some(3)
 }
 
-#[derive(Clone, Copy)]
+// The questions of the step.
+fn check(net: &Net<'_>, p: u8, k: u16) -> Result<(), CheckpointRefusal>
+    ensures { result ≡ judged (checkpoint_table (view net.now) p k) tt }
+{
+    if !stands_at(net, p) {
+        return Err(CheckpointRefusal::Gone);
+    }
+    if mark_of(net, p) < u32::from(k) {
+        return Err(CheckpointRefusal::Low);
+    }
+    Ok(())
+}
+
+#[derive(Clone, Copy, Debug, PartialEq, Eq)]
 pub struct Checkpoint;
+
+// Why this book, which owns the byte 80, refuses a step.
+pub type CheckpointFault = BookFault<CheckpointRefusal, 0x80>;
 
 impl Book for Checkpoint {
     type Fault = CheckpointFault;
@@ -75,15 +74,8 @@ impl Book for Checkpoint {
     }
 
     fn take(&self, net: &mut Net<'_>, step: &[u8]) -> Result<(), CheckpointFault> {
-        check_size(net)?;
+        net.check_size()?;
         frame(checkpoint_width(byte_at(step, 0)), step)?;
-        let p = byte_at(step, 1);
-        if !stands_at(net, p) {
-            return Err(CheckpointFault::Gone);
-        }
-        if mark_of(net, p) < two_bytes(step, 2) as u32 {
-            return Err(CheckpointFault::Low);
-        }
-        Ok(())
+        check(net, byte_at(step, 1), two_bytes(step, 2)).map_err(BookFault::Step)
     }
 }

@@ -22,19 +22,12 @@ mod tests {
         0x13, 2, 1, 0, 2, 0x12, 3, 0, 0, 1, 0x13, 3, 2, 0, 1, 0x1f, 1,
     ];
 
-    // The number of the refusal of a step by the customer's book joined with the house book, 0 where it is taken.
-    fn number(net: &mut Net<'_>, step: &[u8]) -> u8 {
-        match join(Checkpoint, Basics).take(net, step) {
-            Ok(()) => 0,
-            Err(fault) => fault.number(),
-        }
-    }
-
-    fn seen(net: &Net<'_>, at: Look) -> u32 {
-        match net.look(at) {
-            Ok(value) => value,
-            Err(_) => 1000,
-        }
+    // The number of the refusal of a step by the customer's book joined with the house book, if it is refused.
+    fn refused(net: &mut Net<'_>, step: &[u8]) -> Option<u8> {
+        join(Checkpoint, Basics)
+            .take(net, step)
+            .err()
+            .map(|fault| fault.number())
     }
 
     #[test]
@@ -43,24 +36,24 @@ mod tests {
         let mut draft = Draft::start(&mut sheet);
         assert!(rt; read(&mut draft, &WAYS).is_ok());
         let mut net = draft.finish();
-        assert_eq!(rt; number(&mut net, &[]), 2);
-        assert_eq!(rt; number(&mut net, &[0x7f]), 3);
-        assert_eq!(rt; number(&mut net, &[0x20, 1]), 2);
-        assert_eq!(rt; number(&mut net, &[0x20, 0, 1, 2]), 4);
-        assert_eq!(rt; number(&mut net, &[0x80, 0, 0]), 2);
-        assert_eq!(rt; number(&mut net, &[0x80, 9, 0, 0]), 100);
-        assert_eq!(rt; number(&mut net, &[0x80, 0, 0, 3]), 101);
-        assert_eq!(rt; number(&mut net, &[0x25, 0]), 13);
-        assert_eq!(rt; number(&mut net, &[0x20, 9, 0]), 8);
-        assert_eq!(rt; number(&mut net, &[0x24, 0, 9]), 9);
-        assert_eq!(rt; number(&mut net, &[0x20, 1, 1]), 14);
-        assert_eq!(rt; number(&mut net, &[0x21, 2, 0, 0, 0]), 15);
-        assert_eq!(rt; number(&mut net, &[0x26, 2]), 16);
-        assert_eq!(rt; number(&mut net, &[0x26, 0]), 17);
-        assert_eq!(rt; number(&mut net, &[0x24, 0, 0]), 18);
-        assert_eq!(rt; seen(&net, Look::Transitions), 4);
-        assert_eq!(rt; seen(&net, Look::Mark(0)), 2);
-        assert_eq!(rt; seen(&net, Look::Put(3, 2)), 1);
+        assert_eq!(rt; refused(&mut net, &[]), Some(2));
+        assert_eq!(rt; refused(&mut net, &[0x7f]), Some(3));
+        assert_eq!(rt; refused(&mut net, &[0x20, 1]), Some(2));
+        assert_eq!(rt; refused(&mut net, &[0x20, 0, 1, 2]), Some(4));
+        assert_eq!(rt; refused(&mut net, &[0x80, 0, 0]), Some(2));
+        assert_eq!(rt; refused(&mut net, &[0x80, 9, 0, 0]), Some(100));
+        assert_eq!(rt; refused(&mut net, &[0x80, 0, 0, 3]), Some(101));
+        assert_eq!(rt; refused(&mut net, &[0x25, 0]), Some(13));
+        assert_eq!(rt; refused(&mut net, &[0x20, 9, 0]), Some(8));
+        assert_eq!(rt; refused(&mut net, &[0x24, 0, 9]), Some(9));
+        assert_eq!(rt; refused(&mut net, &[0x20, 1, 1]), Some(14));
+        assert_eq!(rt; refused(&mut net, &[0x21, 2, 0, 0, 0]), Some(15));
+        assert_eq!(rt; refused(&mut net, &[0x26, 2]), Some(16));
+        assert_eq!(rt; refused(&mut net, &[0x26, 0]), Some(17));
+        assert_eq!(rt; refused(&mut net, &[0x24, 0, 0]), Some(18));
+        assert_eq!(rt; net.look(Look::Transitions), Ok(4));
+        assert_eq!(rt; net.look(Look::Mark(0)), Ok(2));
+        assert_eq!(rt; net.look(Look::Put(3, 2)), Ok(1));
         Ok(())
     }
 
@@ -70,17 +63,17 @@ mod tests {
         let mut draft = Draft::start(&mut sheet);
         assert!(rt; read(&mut draft, &WAYS).is_ok());
         let mut net = draft.finish();
-        assert_eq!(rt; number(&mut net, &[0x80, 0, 0, 2]), 0);
-        assert_eq!(rt; number(&mut net, &[0x21, 2, 0, 0, 2]), 0);
-        assert_eq!(rt; seen(&net, Look::Put(2, 2)), 1);
-        assert_eq!(rt; number(&mut net, &[0x22, 2, 0, 1]), 0);
-        assert_eq!(rt; number(&mut net, &[0x22, 2, 0, 1]), 8);
-        assert_eq!(rt; seen(&net, Look::Transitions), 2);
-        assert_eq!(rt; seen(&net, Look::Take(0, 0)), 1);
-        assert_eq!(rt; seen(&net, Look::Put(0, 1)), 1);
-        assert_eq!(rt; seen(&net, Look::Take(1, 1)), 1);
-        assert_eq!(rt; seen(&net, Look::Put(1, 2)), 1);
-        assert_eq!(rt; seen(&net, Look::Stands(2)), 1);
+        assert_eq!(rt; refused(&mut net, &[0x80, 0, 0, 2]), None);
+        assert_eq!(rt; refused(&mut net, &[0x21, 2, 0, 0, 2]), None);
+        assert_eq!(rt; net.look(Look::Put(2, 2)), Ok(1));
+        assert_eq!(rt; refused(&mut net, &[0x22, 2, 0, 1]), None);
+        assert_eq!(rt; refused(&mut net, &[0x22, 2, 0, 1]), Some(8));
+        assert_eq!(rt; net.look(Look::Transitions), Ok(2));
+        assert_eq!(rt; net.look(Look::Take(0, 0)), Ok(1));
+        assert_eq!(rt; net.look(Look::Put(0, 1)), Ok(1));
+        assert_eq!(rt; net.look(Look::Take(1, 1)), Ok(1));
+        assert_eq!(rt; net.look(Look::Put(1, 2)), Ok(1));
+        assert_eq!(rt; net.look(Look::Stands(2)), Ok(1));
         Ok(())
     }
 

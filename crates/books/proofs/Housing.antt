@@ -1,12 +1,12 @@
--- What every house book keeps.
-use Rattle.std.proofs.Common.{◌≡◌, ℕ, Bool, true, false, cond, List, [], ◌∷◌, is_some, Ok, Err, Result, sym, refl, ap, ◌∙◌, subst}
+-- What every house book keeps, and what its take gives.
+use Rattle.std.proofs.Common.{◌≡◌, ℕ, Bool, true, false, cond, List, [], ◌∷◌, get_or, Option, Ok, Err, Result, sym, refl, ap, ◌∙◌}
 use Rattle.net.specs.declared.net.NetFault.{NetFault}
 use Rattle.net.specs.declared.net.NetFault.TheVariants.{WrongSize}
-use Rattle.net.specs.Refusals.{Check, judged}
-use Rattle.net.specs.States.{State, said, left, Answered}
+use Rattle.net.specs.Refusals.{Check, ◌unless◌, judged, Passes}
+use Rattle.net.specs.States.{State, sized, said, left, Answered}
 use Rattle.net.specs.Qualities.{Qualities}
 use Rattle.net.specs.Looks.{measured}
-use Rattle.net.proofs.Tables.{ok_same, ok_not_err, err_same}
+use Rattle.net.proofs.Tables.{ok_same, ok_not_err, err_same, passed, passing}
 use Rattle.theory.specs.declared.refusal.Refusal.{Refusal}
 use Rattle.theory.specs.Steps as steps
 use Rattle.theory.specs.Laws.{Kept}
@@ -14,15 +14,28 @@ use Rattle.theory.proofs.Lawful.{steps_are_lawful}
 use Rattle.books.specs.declared.faults.Misfit.{Misfit}
 use Rattle.books.specs.declared.faults.Misfit.TheVariants.{Unknown}
 use Rattle.books.specs.Frames.{Widths, framed, misfit_number, RefusesMisfits}
-use Rattle.books.specs.House.{with_fault, after, house_taken, byte_of, own_judged}
+use Rattle.books.specs.House.{with_fault, after, house_taken, owns, own_checked}
 
 after_ok : {E F : Type 0} (f : E → F) (r : Result Unit E) (k : Result State F) (t : State) → after f r k ≡ Ok t → k ≡ Ok t
 after_ok f (Ok u) k t h = h
 after_ok f (Err e) k t h = absurd (ok_not_err h)
 
-fault_ok : {E F : Type 0} (f : E → F) (r : Result State E) (t : State) → with_fault f r ≡ Ok t → r ≡ Ok t
-fault_ok f (Ok x) t h = ap (λ (y : State). Ok y) (ok_same h)
+fault_ok : {X E F : Type 0} (f : E → F) (r : Result X E) (t : X) → with_fault f r ≡ Ok t → r ≡ Ok t
+fault_ok {X} f (Ok x) t h = ap (λ (y : X). Ok y) (ok_same h)
 fault_ok f (Err e) t h = absurd (ok_not_err h)
+
+-- A table refuses alike, whatever it would let pass.
+refused_alike : {F X Y : Type 0} (cs : List (Check F)) (x : X) (y : Y) (e : F) → judged cs x ≡ Err e → judged cs y ≡ Err e
+refused_alike [] x y e h = absurd (ok_not_err (sym h))
+refused_alike {F} {X} {Y} (c ∷ cs) x y e h = go (λ k. refused_alike cs x y e k) c.holds h
+  where
+    go : (judged cs x ≡ Err e → judged cs y ≡ Err e) → (b : Bool) → cond b (judged cs x) (Err c.refusal) ≡ Err e → cond b (judged cs y) (Err c.refusal) ≡ Err e
+    go rest true k = rest k
+    go rest false k = ap (λ (f : F). Err f) (err_same k)
+
+-- How bytes are framed by what a book says of their first byte.
+pub frame_by : (width : Widths) (bs : List ℕ) (b : ℕ) (o : Option ℕ) → o ≡ width b → b ≡ get_or bs 0 0 → framed (λ _. o) bs ≡ framed width bs
+frame_by width bs b o h k = ap (λ (x : Option ℕ). framed (λ _. x) bs) (h ∙ ap width k)
 
 module _ {F : Type 0} (net : NetFault → F) (bytes : Misfit → F) (refused : Refusal → F) (width : Widths) (parse : List ℕ → steps.Step) where
   -- What a book takes is a step.
@@ -51,40 +64,45 @@ module _ {F : Type 0} (net : NetFault → F) (bytes : Misfit → F) (refused : R
       ap (λ (q : Result Unit NetFault). after net q (after bytes (framed width bs) (with_fault refused (steps.step s (parse bs))))) m
       ∙ ap (λ (q : Result Unit Misfit). after bytes q (with_fault refused (steps.step s (parse bs)))) f
 
-  -- What a book makes of its decoded step is what it gives for the bytes.
-  pub house_judged : (s : State) (bs : List ℕ) (x : steps.Step) (r : Result Unit F) (next : State) → measured s.sheet ≡ Ok tt → framed width bs ≡ Ok tt
-      → x ≡ parse bs → is_some (width (byte_of (parse bs))) ≡ true → Answered r next s (own_judged bytes refused width s x)
-      → Answered r next s (house_taken net bytes refused width parse s bs)
-  house_judged s bs x r next m f e o a = subst (Answered r next s) (ap (own_judged bytes refused width s) e ∙ owned ∙ sym (house_whole s bs m f)) a
+  -- Where the questions of a decoded step pass, it is one of the book's own and its table passes.
+  pub own_passed : (s : State) (x : steps.Step) → own_checked bytes refused width s x ≡ Ok tt → (owns width x ≡ true) × Passes (steps.table s x)
+  own_passed s x h = go (owns width x) refl h
     where
-      owned : own_judged bytes refused width s (parse bs) ≡ with_fault refused (steps.step s (parse bs))
-      owned = ap (λ (b : Bool). cond b (with_fault refused (steps.step s (parse bs))) (Err (bytes Unknown))) o
+      asked : Result Unit F
+      asked = with_fault refused (judged (steps.table s x) tt)
 
--- A refused step is refused by the book, with the step's refusal kept whole.
-pub house_refused : {F : Type 0} (f : Refusal → F) (d : Result State Refusal) (r : Refusal) (y : F) (q : Result Unit F) (next before : State)
-    → q ≡ Err y → y ≡ f r → Answered (Err r) next before d → Answered q next before (with_fault f d)
-house_refused f (Ok x) r y q next before e k a = absurd (ok_not_err a.answer)
-house_refused {F} f (Err x) r y q next before e k a =
-    record { answer = e ∙ ap (λ (z : F). Err z) (k ∙ ap f (err_same a.answer)); state = a.state }
+      go : (b : Bool) → owns width x ≡ b → ◌≡◌ {A = Result Unit F} (cond b asked (Err (bytes Unknown))) (Ok tt)
+          → (owns width x ≡ true) × Passes (steps.table s x)
+      go true e k = (e, (passed (steps.table s x) tt tt (fault_ok refused (judged (steps.table s x) tt) tt k)).0)
+      go false e k = absurd (ok_not_err k)
 
--- A step that is taken is taken by the book.
-pub house_passed : {F : Type 0} (f : Refusal → F) (d : Result State Refusal) (next before : State) → Answered {F = Refusal} (Ok tt) next before d
-    → Answered {F = F} (Ok tt) next before (with_fault f d)
-house_passed f (Ok x) next before a = record { answer = refl; state = a.state }
-house_passed f (Err x) next before a = absurd (ok_not_err (sym a.answer))
+  module _ (s : State) (bs : List ℕ) (x : steps.Step) (m : measured s.sheet ≡ Ok tt) (f : framed width bs ≡ Ok tt) (e : x ≡ parse bs) where
+    -- A step that passes leads to its next state: the rewrite refuses only a sheet of wrong size.
+    pub house_done : (q : Result Unit NetFault) (t : State) → own_checked bytes refused width s x ≡ Ok tt
+        → Answered q t s (judged (WrongSize unless sized s ∷ []) (steps.next s x)) → (q ≡ Ok tt) × Answered (Ok tt) t s (house_taken net bytes refused width parse s bs)
+    house_done q t h a = (a.answer ∙ ap said written, record { answer = sym (ap said gives); state = a.state ∙ ap (left s) written ∙ sym (ap (left s) gives) })
+      where
+        written : judged (WrongSize unless sized s ∷ []) (steps.next s x) ≡ Ok (steps.next s x)
+        written = passing (WrongSize unless sized s ∷ []) (steps.next s x) (passed (WrongSize unless sized s ∷ []) tt tt m).0
 
--- A table refuses alike, whatever it would let pass.
-refused_alike : {X Y : Type 0} (cs : List (Check Refusal)) (x : X) (y : Y) (e : Refusal) → judged cs x ≡ Err e → judged cs y ≡ Err e
-refused_alike [] x y e h = absurd (ok_not_err (sym h))
-refused_alike (c ∷ cs) x y e h = go (λ k. refused_alike cs x y e k) c.holds h
-  where
-    go : (judged cs x ≡ Err e → judged cs y ≡ Err e) → (b : Bool) → cond b (judged cs x) (Err c.refusal) ≡ Err e → cond b (judged cs y) (Err c.refusal) ≡ Err e
-    go rest true k = rest k
-    go rest false k = ap (λ (f : Refusal). Err f) (err_same k)
+        passes : steps.step s x ≡ Ok (steps.next s x)
+        passes = passing (steps.table s x) (steps.next s x) (own_passed s x h).1
 
--- A step that its questions refuse changes nothing.
-pub check_refused : (cs : List (Check Refusal)) (next s : State) (q : Result Unit Refusal) (y r : Refusal) → q ≡ Err y → y ≡ r → ◌≡◌ {A = Result Unit Refusal} (Err r) (judged cs tt)
-    → Answered q s s (judged cs next)
-check_refused cs next s q y r e f h =
-    let k : judged cs next ≡ Err r = refused_alike cs tt next r (sym h) in
-    record { answer = e ∙ ap (λ (z : Refusal). Err z) f ∙ sym (ap said k); state = sym (ap (left s) k) }
+        gives : house_taken net bytes refused width parse s bs ≡ Ok (steps.next s x)
+        gives = house_whole s bs m f ∙ ap (λ y. with_fault refused (steps.step s y)) (sym e) ∙ ap (with_fault refused) passes
+
+    -- A step that does not changes nothing, and its refusal is kept whole.
+    pub house_refused : (y : F) → owns width (parse bs) ≡ true → own_checked bytes refused width s x ≡ Err y → Answered (Err y) s s (house_taken net bytes refused width parse s bs)
+    house_refused y o h = record { answer = sym (ap said gives); state = sym (ap (left s) gives) }
+      where
+        alike : (r : Result Unit Refusal) → judged (steps.table s x) tt ≡ r → with_fault refused r ≡ Err y → with_fault refused (steps.step s x) ≡ Err y
+        alike (Ok u) k g = absurd (ok_not_err (sym g))
+        alike (Err z) k g = ap (with_fault refused) (refused_alike (steps.table s x) tt (steps.next s x) z k) ∙ ap (λ (v : F). Err v) (err_same g)
+
+        own : own_checked bytes refused width s x ≡ with_fault refused (judged (steps.table s x) tt)
+        own = ap (λ (b : Bool). cond b (with_fault refused (judged (steps.table s x) tt)) (Err (bytes Unknown))) (ap (owns width) e ∙ o)
+
+        gives : house_taken net bytes refused width parse s bs ≡ Err y
+        gives =
+            house_whole s bs m f ∙ ap (λ z. with_fault refused (steps.step s z)) (sym e)
+            ∙ alike (judged (steps.table s x) tt) refl (sym own ∙ h)

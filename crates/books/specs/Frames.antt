@@ -1,5 +1,5 @@
 -- How the bytes of a step are framed: a first byte that a book owns, and as many operand bytes as its width says.
-use Rattle.std.specs.Prelude.{◌≡◌, ℕ, ◌+◌, ◌≤◌, true, List, [], ◌∷◌, length, is_some, Some, None, Err, Option, Result, nat_le, nat_lt, slice_index}
+use Rattle.std.specs.Prelude.{◌≡◌, ℕ, ◌+◌, ◌≤◌, true, List, [], ◌∷◌, ◌++◌, length, is_some, Some, None, Ok, Err, Option, Result, nat_le, nat_lt, slice_index}
 use Rattle.net.specs.Refusals.{Check, ◌unless◌, judged}
 use Rattle.net.specs.States.{State, sized}
 use Rattle.books.specs.declared.faults.Misfit.{Misfit}
@@ -13,14 +13,27 @@ abbrev pub width_or : Option ℕ → ℕ
 width_or (Some w) = w
 width_or None = 0
 
--- The bytes are one whole step: the first is there, it is owned, its operands are there, and nothing follows.
-abbrev pub frame_table : Widths → List ℕ → List (Check Misfit)
-frame_table width bs =
+-- The length of the step at the front of the bytes: the first is there, it is owned, and its operands are there.
+abbrev pub step_length : Widths → List ℕ → ℕ
+step_length width bs = width_or (width (slice_index bs 0)) + 1
+
+abbrev pub front_table : Widths → List ℕ → List (Check Misfit)
+front_table width bs =
     Short unless nat_lt 0 (length bs)
     ∷ Unknown unless is_some (width (slice_index bs 0))
-    ∷ Short unless nat_le (width_or (width (slice_index bs 0)) + 1) (length bs)
-    ∷ Long unless nat_le (length bs) (width_or (width (slice_index bs 0)) + 1)
+    ∷ Short unless nat_le (step_length width bs) (length bs)
     ∷ []
+
+abbrev pub front : Widths → List ℕ → Result ℕ Misfit
+front width bs = judged (front_table width bs) (step_length width bs)
+
+abbrev pub Within : {F : Type 0} → Result ℕ F → ℕ → Type 0
+Within (Ok n) len = n ≤ len
+Within (Err e) len = Unit {0}
+
+-- The bytes are one whole step: beside that, nothing follows.
+abbrev pub frame_table : Widths → List ℕ → List (Check Misfit)
+frame_table width bs = front_table width bs ++ Long unless nat_le (length bs) (step_length width bs) ∷ []
 
 abbrev pub framed : Widths → List ℕ → Result Unit Misfit
 framed width bs = judged (frame_table width bs) tt

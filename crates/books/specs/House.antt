@@ -1,14 +1,17 @@
 -- House books: a step is framed by its widths, decoded, and judged by the tables of the steps.
-use Rattle.std.specs.Prelude.{ℕ, ◌+◌, ◌*◌, cond, List, take, drop, is_some, Ok, Err, Result, slice_index}
+use Rattle.std.specs.Prelude.{ℕ, ◌+◌, ◌*◌, Bool, cond, List, take, drop, is_some, Ok, Err, Result, slice_index}
 use Rattle.net.specs.declared.net.NetFault.{NetFault}
+use Rattle.net.specs.Refusals.{judged}
 use Rattle.net.specs.States.{State}
 use Rattle.net.specs.Looks.{measured}
 use Rattle.theory.specs.declared.refusal.Refusal.{Refusal}
 use Rattle.theory.specs.Steps as steps
 use Rattle.books.specs.declared.faults.Misfit.{Misfit}
 use Rattle.books.specs.declared.faults.Misfit.TheVariants.{Unknown}
+use Rattle.books.specs.declared.faults.BookFault.{BookFault}
 use Rattle.books.specs.declared.step.Step.{Step}
 use Rattle.books.specs.declared.step.Step.TheVariants as cases
+use Rattle.books.specs.Faults.{from_net, from_bytes, from_step}
 use Rattle.books.specs.Frames.{Widths, framed}
 
 -- Operands of one and two bytes, the higher first.
@@ -55,6 +58,10 @@ abbrev pub house_taken : {F : Type 0} → (NetFault → F) → (Misfit → F) �
 house_taken net bytes refused width parse s bs =
     after net (measured s.sheet) (after bytes (framed width bs) (with_fault refused (steps.step s (parse bs))))
 
+-- The same with the fault of a book.
+abbrev pub book_taken : {first : ℕ} → Widths → (List ℕ → steps.Step) → State → List ℕ → Result State (BookFault Refusal first)
+book_taken width parse s bs = house_taken from_net from_bytes from_step width parse s bs
+
 -- The first byte of each step.
 abbrev pub byte_of : steps.Step → ℕ
 byte_of (steps.drop_dominated t u) = 0x20
@@ -73,6 +80,10 @@ byte_of (steps.free_agglomerate p) = 0x2c
 byte_of (steps.fire_ahead t k) = 0x2d
 byte_of (steps.fuse_places p q a b) = 0x2e
 
--- A decoded step: a book judges its own, and a step of another book is none of this one.
-abbrev pub own_judged : {F : Type 0} → (Misfit → F) → (Refusal → F) → Widths → State → steps.Step → Result State F
-own_judged bytes refused width s x = cond (is_some (width (byte_of x))) (with_fault refused (steps.step s x)) (Err (bytes Unknown))
+-- Is the step one of the book's own?
+abbrev pub owns : Widths → steps.Step → Bool
+owns width x = is_some (width (byte_of x))
+
+-- The questions of a decoded step: a step of another book is none of this one.
+abbrev pub own_checked : {F : Type 0} → (Misfit → F) → (Refusal → F) → Widths → State → steps.Step → Result Unit F
+own_checked bytes refused width s x = cond (owns width x) (with_fault refused (judged (steps.table s x) tt)) (Err (bytes Unknown))

@@ -1,4 +1,5 @@
 pub mod Frames
+pub mod Faults
 pub mod Joins
 pub mod House
 pub mod Joining

@@ -1,13 +1,14 @@
-// Faults have numbers; bytes that are no whole step have a fault of their own.
+// Faults have numbers; bytes that are no whole step have a fault of their own, and so has each book.
 ghost use Rattle.std.specs.Prelude.{◌≡◌, ℕ};
 ghost use Rattle.net.specs.Refusals.{net_number};
 ghost use Rattle.theory.specs.Steps.{refusal_number};
 ghost use Rattle.books.specs.Frames.{misfit_number};
+ghost use Rattle.books.specs.Faults.{book_number, from_net, from_bytes, from_step};
 
 use net::NetFault;
 use theory::Refusal;
 
-// What has the number of a refusal.
+// What has the number of a refusal. The numbers are the ones that are printed; each stands beside its name in one table.
 pub trait Numbered {
     ghost number_of: { Self → ℕ };
 
@@ -16,7 +17,7 @@ pub trait Numbered {
 }
 
 // Why bytes are not one whole step: they end too early, nobody owns the first, or more bytes follow.
-#[derive(Clone, Copy)]
+#[derive(Clone, Copy, Debug, PartialEq, Eq)]
 pub enum Misfit {
     Short,
     Unknown,
@@ -60,5 +61,50 @@ impl Numbered for NetFault {
 
     fn number(&self) -> u8 {
         self.told().number
+    }
+}
+
+// Why a book refuses a step: the sheet has the wrong size, the bytes are not one whole step of the book, or the step itself is
+// refused. Each book has a fault type of its own, told apart by the first byte that the book owns from.
+#[derive(Clone, Copy, Debug, PartialEq, Eq, Drop)]
+pub enum BookFault<R, const FIRST: u8> {
+    Net(NetFault),
+    Bytes(Misfit),
+    Step(R),
+}
+
+impl<R: Numbered, const FIRST: u8> Numbered for BookFault<R, FIRST> {
+    ghost number_of = { book_number R.Numbered.number_of };
+
+    fn number(&self) -> u8 {
+        match self {
+            BookFault::Net(fault) => fault.number(),
+            BookFault::Bytes(misfit) => misfit.number(),
+            BookFault::Step(refusal) => refusal.number(),
+        }
+    }
+}
+
+impl<R, const FIRST: u8> From<NetFault> for BookFault<R, FIRST> {
+    ghost from_gives = { λ e r. r ≡ from_net e };
+
+    fn from(e: NetFault) -> BookFault<R, FIRST> {
+        BookFault::Net(e)
+    }
+}
+
+impl<R, const FIRST: u8> From<Misfit> for BookFault<R, FIRST> {
+    ghost from_gives = { λ e r. r ≡ from_bytes e };
+
+    fn from(e: Misfit) -> BookFault<R, FIRST> {
+        BookFault::Bytes(e)
+    }
+}
+
+impl<const FIRST: u8> From<Refusal> for BookFault<Refusal, FIRST> {
+    ghost from_gives = { λ e r. r ≡ from_step e };
+
+    fn from(e: Refusal) -> BookFault<Refusal, FIRST> {
+        BookFault::Step(e)
     }
 }

@@ -9,7 +9,7 @@ use crate::faults::Numbered;
 use net::Net;
 
 // A fault of one of two joined books, which says from which it came.
-#[derive(Drop)]
+#[derive(Clone, Copy, Debug, PartialEq, Eq, Drop)]
 pub enum EitherFault<F, G> {
     First(F),
     Second(G),
@@ -58,22 +58,23 @@ impl<P: Book, Q: Book> Book for Joined<P, Q> {
         P.Book.refuses Q.Book.refuses };
 
     fn width(&self, first: u8) -> Option<u8> {
-        match self.first.width(first) {
-            Some(w) => Some(w),
-            None => self.second.width(first),
-        }
+        self.first.width(first).or_else(|| self.second.width(first))
     }
 
-    fn take(&self, net: &mut Net<'_>, step: &[u8]) -> Result<(), EitherFault<P::Fault, Q::Fault>> {
-        if step.len() > 0 && self.first.width(step[0]).is_some() {
+    // `map_err` to a fault that also names the other book's is not covered by the borrow checker yet.
+    fn take(&self, net: &mut Net<'_>, step: &[u8]) -> Result<(), Self::Fault> {
+        if step
+            .first()
+            .is_some_and(|first| self.first.width(*first).is_some())
+        {
             match self.first.take(net, step) {
                 Ok(()) => Ok(()),
-                Err(f) => Err(EitherFault::First(f)),
+                Err(fault) => Err(EitherFault::First(fault)),
             }
         } else {
             match self.second.take(net, step) {
                 Ok(()) => Ok(()),
-                Err(g) => Err(EitherFault::Second(g)),
+                Err(fault) => Err(EitherFault::Second(fault)),
             }
         }
     }

@@ -5,16 +5,15 @@ ghost use Rattle.std.specs.Prelude.{◌≡◌, ℕ, ◌+◌, ◌≤◌, List, le
 ghost use Rattle.net.specs.Qualities.{Qualities};
 ghost use Rattle.net.specs.States.{State, view, Answered};
 ghost use Rattle.theory.specs.Laws.{Kept};
-ghost use Rattle.net.specs.Looks.{measured};
 ghost use Rattle.books.specs.House.{two};
-ghost use Rattle.books.specs.Frames.{framed, Narrow, RefusesMisfits};
+ghost use Rattle.books.specs.Frames.{front, framed, Within, Narrow, RefusesMisfits};
 
 pub mod faults;
 pub mod joined;
 pub mod step;
 
 use faults::{Misfit, Numbered};
-use net::{Net, NetFault, measure};
+use net::Net;
 
 pub trait Book {
     // What a refusal of the book holds.
@@ -26,6 +25,7 @@ pub trait Book {
 
     ghost taken: { State → List ℕ → Result State Self.Fault };
 
+    // The first byte is asked as a number, before there is a step.
     fn width(&self, first: u8) -> Option<u8>
         ensures { result ≡ width_of first };
 
@@ -46,38 +46,40 @@ pub trait Book {
 pub fn byte_at(bytes: &[u8], i: usize) -> u8
     ensures { result ≡ slice_index bytes.now i }
 {
-    if i < bytes.len() { bytes[i] } else { 0 }
-}
-
-// Are the bytes one whole step, if the book says this width of their first byte?
-pub fn frame(width: Option<u8>, bytes: &[u8]) -> Result<(), Misfit>
-    ensures { result ≡ framed (λ _. width) bytes.now }
-{
-    if bytes.len() == 0 {
-        return Err(Misfit::Short);
-    }
-    let Some(operands) = width else {
-        return Err(Misfit::Unknown);
-    };
-    if bytes.len() < operands as usize + 1 {
-        return Err(Misfit::Short);
-    }
-    if bytes.len() > operands as usize + 1 {
-        return Err(Misfit::Long);
-    }
-    Ok(())
-}
-
-// Has the net's sheet the right size?
-pub fn check_size(net: &Net<'_>) -> Result<(), NetFault>
-    ensures { result ≡ measured (view net.now).sheet }
-{
-    measure(net.sheet)
+    bytes.get(i).copied().unwrap_or(0)
 }
 
 // The number of two bytes at i, the higher first; 0 stands for a byte that is not there.
 pub fn two_bytes(bytes: &[u8], i: u8) -> u16
     ensures { result ≡ two bytes.now i }
 {
-    256 * byte_at(bytes, i as usize) as u16 + byte_at(bytes, i as usize + 1) as u16
+    u16::from_be_bytes([
+        byte_at(bytes, usize::from(i)),
+        byte_at(bytes, usize::from(i) + 1),
+    ])
+}
+
+// The length of the step at the front of the bytes, if the book says this width of their first byte.
+pub fn front(width: Option<u8>, bytes: &[u8]) -> Result<usize, Misfit>
+    ensures value { result ≡ front (λ _. width) bytes.now }
+    ensures within { Within result (length bytes.now) }
+{
+    if bytes.is_empty() {
+        return Err(Misfit::Short);
+    }
+    let length = usize::from(width.ok_or(Misfit::Unknown)?) + 1;
+    if bytes.len() < length {
+        return Err(Misfit::Short);
+    }
+    Ok(length)
+}
+
+// Are the bytes one whole step, if the book says this width of their first byte?
+pub fn frame(width: Option<u8>, bytes: &[u8]) -> Result<(), Misfit>
+    ensures { result ≡ framed (λ _. width) bytes.now }
+{
+    if front(width, bytes)? < bytes.len() {
+        return Err(Misfit::Long);
+    }
+    Ok(())
 }

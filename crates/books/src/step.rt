@@ -1,5 +1,5 @@
 // A decoded step of the house books. Cases with a set borrow the eight bytes of the step; the others hold plain numbers.
-#[derive(Clone, Copy)]
+#[derive(Clone, Copy, Debug, PartialEq, Eq)]
 pub enum Step<'a> {
     DropDominated(u8, u8),
     DropMultiple(u8, u8, u16),

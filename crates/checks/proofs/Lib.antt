@@ -1,2 +1,1 @@
-pub mod Loops
-pub mod Those
+pub mod Made

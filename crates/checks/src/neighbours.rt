@@ -3,7 +3,7 @@ ghost use Rattle.std.specs.Prelude.{◌≡◌, ℕ, Bool, nat_eq, nat_lt};
 ghost use Rattle.net.specs.States.{take};
 ghost use Rattle.theory.specs.Tests.{◌⇒◌, feeder?, consumer?};
 
-use crate::{PlaceTest, TransitionTest, put_of, take_of};
+use crate::{Place, Test, Transition, put_of, take_of};
 use net::Net;
 
 // Does the transition put into p?
@@ -12,7 +12,9 @@ pub struct Feeds {
     pub p: u8,
 }
 
-impl TransitionTest for Feeds {
+impl Test for Feeds {
+    type Of = Transition;
+
     ghost holds = { λ x s t. feeder? s x.p t };
 
     fn test(&self, net: &Net<'_>, t: u8) -> bool {
@@ -26,7 +28,9 @@ pub struct Consumes {
     pub p: u8,
 }
 
-impl TransitionTest for Consumes {
+impl Test for Consumes {
+    type Of = Transition;
+
     ghost holds = { λ x s t. consumer? s x.p t };
 
     fn test(&self, net: &Net<'_>, t: u8) -> bool {
@@ -41,7 +45,9 @@ pub struct OnlyConsumer {
     pub t: u8,
 }
 
-impl TransitionTest for OnlyConsumer {
+impl Test for OnlyConsumer {
+    type Of = Transition;
+
     ghost holds = { λ x s u. consumer? s x.p u ⇒ nat_eq u x.t };
 
     fn test(&self, net: &Net<'_>, u: u8) -> bool {
@@ -55,7 +61,9 @@ pub struct Source {
     pub t: u8,
 }
 
-impl PlaceTest for Source {
+impl Test for Source {
+    type Of = Place;
+
     ghost holds = { λ x s p. nat_lt 0 (take s x.t p) };
 
     fn test(&self, net: &Net<'_>, p: u8) -> bool {

@@ -1,27 +1,21 @@
 -- The house book judges the bytes of a step as the definition of the step does.
-use Rattle.std.proofs.Common.{◌≡◌, ℕ, ◌+◌, ◌*◌, ◌/◌, ◌%◌, Bool, true, false, cond, ◌&&◌, ltb, List, ◌∷◌, length, get_or, take, is_some, Ok, Err, Result, refl, ap, ◌∙◌, arith}
+use Rattle.std.proofs.Common.{◌≡◌, ℕ, ◌+◌, ◌*◌, ◌/◌, ◌%◌, Bool, true, false, cond, ◌&&◌, ltb, List, length, get_or, take, is_some, Ok, Err, Result, refl, ap, ◌∙◌, arith}
 use Rattle.std.proofs.lemmas.List.{take_all}
-use Rattle.net.specs.declared.net.NetFault.{NetFault}
 use Rattle.net.specs.declared.net.NetFault.TheVariants.{WrongSize}
-use Rattle.net.specs.Looks.{measured}
 use Rattle.net.specs.States.{State, sized}
 use Rattle.theory.specs.declared.refusal.Refusal.{Refusal}
 use Rattle.theory.specs.Steps as steps
-use Rattle.books.specs.declared.faults.Misfit.{Misfit}
+use Rattle.books.specs.Faults.{from_net, from_bytes, from_step}
 use Rattle.books.specs.Frames.{Widths, framed}
-use Rattle.books.specs.House.{with_fault, house_taken}
+use Rattle.books.specs.House.{with_fault, book_taken}
 use Rattle.books.specs.Joins.{either_number, from_first, from_second, joined_taken}
 use Rattle.books.proofs.Housing.{house_whole, house_takes}
 use Rattle.books.specs.Joining.{joined_keeps}
 use Rattle.basics.specs.Basics.{basic_width, basic_step, basic_taken}
-use Rattle.basics.specs.Faults as basic
 use Rattle.merges.specs.Merges.{merge_width, merge_step, merge_taken}
-use Rattle.merges.specs.Faults as merge
 use Rattle.moves.specs.Moves.{move_width, move_step, move_taken}
-use Rattle.moves.specs.Faults as move
 use Rattle.sets.specs.Sets.{set_width, set_step, set_taken}
-use Rattle.sets.specs.Faults as set
-use Rattle.house.specs.House.{later_number, later_width, taken_later, behind_number, behind_width, taken_behind, house_number, taken_by_house, encoded, numbered, JudgesSteps, TakesSteps}
+use Rattle.house.specs.House.{fault_number, later_number, later_width, taken_later, behind_number, behind_width, taken_behind, house_number, taken_by_house, encoded, numbered, JudgesSteps, TakesSteps}
 
 -- Where a book stands among joined ones, the number of its refusal stays.
 first_numbered : {F G : Type 0} (nf : F → ℕ) (ng : G → ℕ) (r : Result State F) → numbered (either_number nf ng) (from_first r) ≡ numbered nf r
@@ -45,16 +39,15 @@ module _ {F G : Type 0} (nf : F → ℕ) (ng : G → ℕ) (wf : Widths) (f : Sta
       ap (λ (b : Bool). numbered (either_number nf ng) (cond b (from_first (f s bs)) (from_second (g s bs)))) e ∙ second_numbered nf ng (g s bs)
 
 -- A house book judges a whole step as the step's definition does.
-module _ {F : Type 0} (number : F → ℕ) (net : NetFault → F) (bytes : Misfit → F) (refused : Refusal → F)
-    (same : (e : Refusal) → number (refused e) ≡ steps.refusal_number e) (width : Widths) (parse : List ℕ → steps.Step) where
-  fault_numbered : (d : Result State Refusal) → numbered number (with_fault refused d) ≡ numbered steps.refusal_number d
+module _ (first : ℕ) (width : Widths) (parse : List ℕ → steps.Step) where
+  fault_numbered : (d : Result State Refusal) → numbered (fault_number {first = first}) (with_fault (from_step {first = first}) d) ≡ numbered steps.refusal_number d
   fault_numbered (Ok t) = refl
-  fault_numbered (Err e) = ap (λ (n : ℕ). Err n) (same e)
+  fault_numbered (Err e) = refl
 
   by_book : (s : State) (bs : List ℕ) (x : steps.Step) → sized s ≡ true → framed width bs ≡ Ok tt → parse bs ≡ x
-      → numbered number (house_taken net bytes refused width parse s bs) ≡ numbered steps.refusal_number (steps.step s x)
+      → numbered (fault_number {first = first}) (book_taken {first = first} width parse s bs) ≡ numbered steps.refusal_number (steps.step s x)
   by_book s bs x z f e =
-      ap (numbered number) (house_whole net bytes refused width parse s bs (ap (λ (b : Bool). cond b (Ok tt) (Err WrongSize)) z) f)
+      ap (numbered (fault_number {first = first})) (house_whole (from_net {first = first}) from_bytes from_step width parse s bs (ap (λ (b : Bool). cond b (Ok tt) (Err WrongSize)) z) f)
       ∙ fault_numbered (steps.step s (parse bs)) ∙ ap (λ (y : steps.Step). numbered steps.refusal_number (steps.step s y)) e
 
 -- Two bytes of a number, and the eight bytes of a set.
@@ -72,30 +65,30 @@ module _ (s : State) (x : steps.Step) (z : sized s ≡ true) where
   to_basics : owns basic_width (encoded x) ≡ true → framed basic_width (encoded x) ≡ Ok tt → basic_step (encoded x) ≡ x
       → JudgedBy house_number taken_by_house
   to_basics o f e =
-      in_first basic.basic_number behind_number basic_width basic_taken taken_behind s (encoded x) o
-      ∙ by_book basic.basic_number basic.from_net basic.from_bytes basic.from_step (λ r. refl) basic_width basic_step s (encoded x) x z f e
+      in_first (fault_number {first = 0x20}) behind_number basic_width basic_taken taken_behind s (encoded x) o
+      ∙ by_book 0x20 basic_width basic_step s (encoded x) x z f e
 
   past_basics : owns basic_width (encoded x) ≡ false → JudgedBy behind_number taken_behind → JudgedBy house_number taken_by_house
-  past_basics n e = in_second basic.basic_number behind_number basic_width basic_taken taken_behind s (encoded x) n ∙ e
+  past_basics n e = in_second (fault_number {first = 0x20}) behind_number basic_width basic_taken taken_behind s (encoded x) n ∙ e
 
   to_sets : owns set_width (encoded x) ≡ true → framed set_width (encoded x) ≡ Ok tt → set_step (encoded x) ≡ x → JudgedBy behind_number taken_behind
   to_sets o f e =
-      in_first set.set_number later_number set_width set_taken taken_later s (encoded x) o
-      ∙ by_book set.set_number set.from_net set.from_bytes set.from_step (λ r. refl) set_width set_step s (encoded x) x z f e
+      in_first (fault_number {first = 0x28}) later_number set_width set_taken taken_later s (encoded x) o
+      ∙ by_book 0x28 set_width set_step s (encoded x) x z f e
 
   past_sets : owns set_width (encoded x) ≡ false → JudgedBy later_number taken_later → JudgedBy behind_number taken_behind
-  past_sets n e = in_second set.set_number later_number set_width set_taken taken_later s (encoded x) n ∙ e
+  past_sets n e = in_second (fault_number {first = 0x28}) later_number set_width set_taken taken_later s (encoded x) n ∙ e
 
   to_merges : owns merge_width (encoded x) ≡ true → framed merge_width (encoded x) ≡ Ok tt → merge_step (encoded x) ≡ x
       → JudgedBy later_number taken_later
   to_merges o f e =
-      in_first merge.merge_number move.move_number merge_width merge_taken move_taken s (encoded x) o
-      ∙ by_book merge.merge_number merge.from_net merge.from_bytes merge.from_step (λ r. refl) merge_width merge_step s (encoded x) x z f e
+      in_first (fault_number {first = 0x2a}) (fault_number {first = 0x2d}) merge_width merge_taken move_taken s (encoded x) o
+      ∙ by_book 0x2a merge_width merge_step s (encoded x) x z f e
 
   to_moves : owns merge_width (encoded x) ≡ false → framed move_width (encoded x) ≡ Ok tt → move_step (encoded x) ≡ x → JudgedBy later_number taken_later
   to_moves n f e =
-      in_second merge.merge_number move.move_number merge_width merge_taken move_taken s (encoded x) n
-      ∙ by_book move.move_number move.from_net move.from_bytes move.from_step (λ r. refl) move_width move_step s (encoded x) x z f e
+      in_second (fault_number {first = 0x2a}) (fault_number {first = 0x2d}) merge_width merge_taken move_taken s (encoded x) n
+      ∙ by_book 0x2d move_width move_step s (encoded x) x z f e
 
 pub judges_steps : JudgesSteps
 judges_steps s (steps.drop_dominated t u) z w = to_basics s (steps.drop_dominated t u) z refl refl refl
@@ -124,13 +117,13 @@ judges_steps s (steps.fuse_places p q a b) z w =
 
 pub takes_steps : TakesSteps
 takes_steps s t bs h =
-    joined_keeps basic.basic_number behind_number basic_width behind_width basic_taken taken_behind IsStep s t bs
-    (λ k. (basic_step bs, house_takes basic.from_net basic.from_bytes basic.from_step basic_width basic_step s t bs k))
-    (joined_keeps set.set_number later_number set_width later_width set_taken taken_later IsStep s t bs
-    (λ k. (set_step bs, house_takes set.from_net set.from_bytes set.from_step set_width set_step s t bs k))
-    (joined_keeps merge.merge_number move.move_number merge_width move_width merge_taken move_taken IsStep s t bs
-    (λ k. (merge_step bs, house_takes merge.from_net merge.from_bytes merge.from_step merge_width merge_step s t bs k))
-    (λ k. (move_step bs, house_takes move.from_net move.from_bytes move.from_step move_width move_step s t bs k)))) h
+    joined_keeps (fault_number {first = 0x20}) behind_number basic_width behind_width basic_taken taken_behind IsStep s t bs
+    (λ k. (basic_step bs, house_takes (from_net {first = 0x20}) from_bytes from_step basic_width basic_step s t bs k))
+    (joined_keeps (fault_number {first = 0x28}) later_number set_width later_width set_taken taken_later IsStep s t bs
+    (λ k. (set_step bs, house_takes (from_net {first = 0x28}) from_bytes from_step set_width set_step s t bs k))
+    (joined_keeps (fault_number {first = 0x2a}) (fault_number {first = 0x2d}) merge_width move_width merge_taken move_taken IsStep s t bs
+    (λ k. (merge_step bs, house_takes (from_net {first = 0x2a}) from_bytes from_step merge_width merge_step s t bs k))
+    (λ k. (move_step bs, house_takes (from_net {first = 0x2d}) from_bytes from_step move_width move_step s t bs k)))) h
   where
     IsStep : State → Type 0
     IsStep u = (x : steps.Step) × (steps.step s x ≡ Ok u)

@@ -1,30 +1,32 @@
 -- The four house books joined: 20 to 27, then 28 and 29, then 2A to 2C, then 2D and 2E.
 use Rattle.std.specs.Prelude.{◌≡◌, ℕ, ◌/◌, ◌%◌, true, List, [], ◌∷◌, length, Ok, Err, Result}
 use Rattle.net.specs.States.{State, sized}
+use Rattle.theory.specs.declared.refusal.Refusal.{Refusal}
 use Rattle.theory.specs.Steps as steps
+use Rattle.books.specs.declared.faults.BookFault.{BookFault}
 use Rattle.books.specs.declared.joined.EitherFault.{EitherFault}
+use Rattle.books.specs.Faults.{book_number}
 use Rattle.books.specs.Frames.{Widths}
 use Rattle.books.specs.House.{byte_of}
 use Rattle.books.specs.Joins.{either_number, joined_width, joined_taken}
-use Rattle.basics.specs.declared.faults.BasicFault.{BasicFault}
 use Rattle.basics.specs.Basics.{basic_width, basic_taken}
-use Rattle.basics.specs.Faults.{basic_number}
-use Rattle.merges.specs.declared.faults.MergeFault.{MergeFault}
 use Rattle.merges.specs.Merges.{merge_width, merge_taken}
-use Rattle.merges.specs.Faults.{merge_number}
-use Rattle.moves.specs.declared.faults.MoveFault.{MoveFault}
 use Rattle.moves.specs.Moves.{move_width, move_taken}
-use Rattle.moves.specs.Faults.{move_number}
-use Rattle.sets.specs.declared.faults.SetFault.{SetFault}
 use Rattle.sets.specs.Sets.{set_width, set_taken}
-use Rattle.sets.specs.Faults.{set_number}
+
+-- A fault of one of the four books, which its first byte names, and its number.
+abbrev pub Fault : ℕ → Type 0
+Fault first = BookFault Refusal first
+
+abbrev pub fault_number : {first : ℕ} → Fault first → ℕ
+fault_number e = book_number steps.refusal_number e
 
 -- The books behind the first, and those behind the second.
 abbrev pub LaterFault : Type 0
-LaterFault = EitherFault MergeFault MoveFault
+LaterFault = EitherFault (Fault 0x2a) (Fault 0x2d)
 
 abbrev pub later_number : LaterFault → ℕ
-later_number e = either_number merge_number move_number e
+later_number e = either_number fault_number fault_number e
 
 abbrev pub later_width : Widths
 later_width b = joined_width merge_width move_width b
@@ -33,10 +35,10 @@ abbrev pub taken_later : State → List ℕ → Result State LaterFault
 taken_later s bs = joined_taken merge_width merge_taken move_taken s bs
 
 abbrev pub BehindFault : Type 0
-BehindFault = EitherFault SetFault LaterFault
+BehindFault = EitherFault (Fault 0x28) LaterFault
 
 abbrev pub behind_number : BehindFault → ℕ
-behind_number e = either_number set_number later_number e
+behind_number e = either_number fault_number later_number e
 
 abbrev pub behind_width : Widths
 behind_width b = joined_width set_width later_width b
@@ -46,10 +48,10 @@ taken_behind s bs = joined_taken set_width set_taken taken_later s bs
 
 -- The house book.
 abbrev pub HouseFault : Type 0
-HouseFault = EitherFault BasicFault BehindFault
+HouseFault = EitherFault (Fault 0x20) BehindFault
 
 abbrev pub house_number : HouseFault → ℕ
-house_number e = either_number basic_number behind_number e
+house_number e = either_number fault_number behind_number e
 
 abbrev pub house_width : Widths
 house_width b = joined_width basic_width behind_width b

@@ -37,19 +37,14 @@ mod tests {
         }
     }
 
-    // The number of the refusal of a step, 0 where it is taken.
-    fn number(net: &mut Net<'_>, step: &[u8]) -> u8 {
-        match house().take(net, step) {
-            Ok(()) => 0,
-            Err(fault) => fault.number(),
-        }
+    // The number of the refusal of a step, where it is refused.
+    fn number(net: &mut Net<'_>, step: &[u8]) -> Option<u8> {
+        house().take(net, step).err().map(|fault| fault.number())
     }
 
-    fn seen(net: &Net<'_>, at: Look) -> u32 {
-        match net.look(at) {
-            Ok(value) => value,
-            Err(_) => 1000,
-        }
+    // The value of a look, or the number of its refusal.
+    fn seen(net: &Net<'_>, at: Look) -> Result<u32, u8> {
+        net.look(at).map_err(|fault| fault.told().number)
     }
 
     #[test]
@@ -58,16 +53,16 @@ mod tests {
         let mut draft = Draft::start(&mut sheet);
         assert!(rt; read(&mut draft, &RELAY).is_ok());
         let mut net = draft.finish();
-        assert_eq!(rt; number(&mut net, &[0x29, 3, 0, 0, 0, 0, 0, 0, 0]), 16);
-        assert_eq!(rt; number(&mut net, &[0x29, 8, 0, 0, 0, 0, 0, 0, 0]), 9);
-        assert_eq!(rt; number(&mut net, &[0x29, 4, 0, 0, 0, 0, 0, 0, 0]), 17);
-        assert_eq!(rt; number(&mut net, &[0x28, 0, 0, 0, 0, 0, 0, 0, 0]), 15);
-        assert_eq!(rt; number(&mut net, &[0x28, 2, 0, 0, 0, 0, 0, 0, 0]), 17);
-        assert_eq!(rt; number(&mut net, &[0x28, 1, 0, 0, 0, 0, 0, 0, 0]), 18);
-        assert_eq!(rt; number(&mut net, &[0x28, 1, 0, 0, 0, 0, 0, 0]), 2);
-        assert_eq!(rt; number(&mut net, &[0x29, 7, 0, 0, 0, 0, 0, 0, 0]), 0);
-        assert_eq!(rt; seen(&net, Look::Transitions), 2);
-        assert_eq!(rt; seen(&net, Look::Mark(0)), 1);
+        assert_eq!(rt; number(&mut net, &[0x29, 3, 0, 0, 0, 0, 0, 0, 0]), Some(16));
+        assert_eq!(rt; number(&mut net, &[0x29, 8, 0, 0, 0, 0, 0, 0, 0]), Some(9));
+        assert_eq!(rt; number(&mut net, &[0x29, 4, 0, 0, 0, 0, 0, 0, 0]), Some(17));
+        assert_eq!(rt; number(&mut net, &[0x28, 0, 0, 0, 0, 0, 0, 0, 0]), Some(15));
+        assert_eq!(rt; number(&mut net, &[0x28, 2, 0, 0, 0, 0, 0, 0, 0]), Some(17));
+        assert_eq!(rt; number(&mut net, &[0x28, 1, 0, 0, 0, 0, 0, 0, 0]), Some(18));
+        assert_eq!(rt; number(&mut net, &[0x28, 1, 0, 0, 0, 0, 0, 0]), Some(2));
+        assert_eq!(rt; number(&mut net, &[0x29, 7, 0, 0, 0, 0, 0, 0, 0]), None);
+        assert_eq!(rt; seen(&net, Look::Transitions), Ok(2));
+        assert_eq!(rt; seen(&net, Look::Mark(0)), Ok(1));
         Ok(())
     }
 
@@ -77,16 +72,16 @@ mod tests {
         let mut draft = Draft::start(&mut sheet);
         assert!(rt; read(&mut draft, &RELAY).is_ok());
         let mut net = draft.finish();
-        assert_eq!(rt; number(&mut net, &[0x2d, 0, 0, 2]), 18);
-        assert_eq!(rt; number(&mut net, &[0x2d, 0, 0, 0]), 15);
-        assert_eq!(rt; number(&mut net, &[0x2d, 1, 0, 1]), 17);
-        assert_eq!(rt; number(&mut net, &[0x2e, 0, 2, 0, 1]), 16);
-        assert_eq!(rt; number(&mut net, &[0x2e, 0, 1, 0, 1]), 17);
-        assert_eq!(rt; number(&mut net, &[0x2d, 0, 0, 1]), 0);
-        assert_eq!(rt; seen(&net, Look::Mark(0)), 0);
-        assert_eq!(rt; seen(&net, Look::Mark(1)), 1);
-        assert_eq!(rt; seen(&net, Look::Mark(2)), 0);
-        assert_eq!(rt; seen(&net, Look::Transitions), 2);
+        assert_eq!(rt; number(&mut net, &[0x2d, 0, 0, 2]), Some(18));
+        assert_eq!(rt; number(&mut net, &[0x2d, 0, 0, 0]), Some(15));
+        assert_eq!(rt; number(&mut net, &[0x2d, 1, 0, 1]), Some(17));
+        assert_eq!(rt; number(&mut net, &[0x2e, 0, 2, 0, 1]), Some(16));
+        assert_eq!(rt; number(&mut net, &[0x2e, 0, 1, 0, 1]), Some(17));
+        assert_eq!(rt; number(&mut net, &[0x2d, 0, 0, 1]), None);
+        assert_eq!(rt; seen(&net, Look::Mark(0)), Ok(0));
+        assert_eq!(rt; seen(&net, Look::Mark(1)), Ok(1));
+        assert_eq!(rt; seen(&net, Look::Mark(2)), Ok(0));
+        assert_eq!(rt; seen(&net, Look::Transitions), Ok(2));
         Ok(())
     }
 
@@ -96,16 +91,16 @@ mod tests {
         let mut draft = Draft::start(&mut sheet);
         assert!(rt; read(&mut draft, &RELAY).is_ok());
         let mut net = draft.finish();
-        assert_eq!(rt; number(&mut net, &[0x2a, 3]), 9);
-        assert_eq!(rt; number(&mut net, &[0x2a, 2]), 16);
-        assert_eq!(rt; number(&mut net, &[0x2a, 1]), 17);
-        assert_eq!(rt; number(&mut net, &[0x2b, 1]), 0);
-        assert_eq!(rt; number(&mut net, &[0x2b, 1]), 9);
-        assert_eq!(rt; seen(&net, Look::Transitions), 1);
-        assert_eq!(rt; seen(&net, Look::Stands(1)), 0);
-        assert_eq!(rt; seen(&net, Look::Take(0, 0)), 1);
-        assert_eq!(rt; seen(&net, Look::Put(0, 2)), 1);
-        assert_eq!(rt; seen(&net, Look::Mark(0)), 1);
+        assert_eq!(rt; number(&mut net, &[0x2a, 3]), Some(9));
+        assert_eq!(rt; number(&mut net, &[0x2a, 2]), Some(16));
+        assert_eq!(rt; number(&mut net, &[0x2a, 1]), Some(17));
+        assert_eq!(rt; number(&mut net, &[0x2b, 1]), None);
+        assert_eq!(rt; number(&mut net, &[0x2b, 1]), Some(9));
+        assert_eq!(rt; seen(&net, Look::Transitions), Ok(1));
+        assert_eq!(rt; seen(&net, Look::Stands(1)), Ok(0));
+        assert_eq!(rt; seen(&net, Look::Take(0, 0)), Ok(1));
+        assert_eq!(rt; seen(&net, Look::Put(0, 2)), Ok(1));
+        assert_eq!(rt; seen(&net, Look::Mark(0)), Ok(1));
         Ok(())
     }
 
@@ -116,18 +111,18 @@ mod tests {
         assert!(rt; read(&mut draft, &IDLE).is_ok());
         let mut net = draft.finish();
         write_idle(&mut net, 65_536);
-        assert_eq!(rt; number(&mut net, &[0x2d, 0, 0, 1]), 21);
-        assert_eq!(rt; number(&mut net, &[0x2b, 1]), 21);
-        assert_eq!(rt; number(&mut net, &[0x2c, 1]), 21);
+        assert_eq!(rt; number(&mut net, &[0x2d, 0, 0, 1]), Some(21));
+        assert_eq!(rt; number(&mut net, &[0x2b, 1]), Some(21));
+        assert_eq!(rt; number(&mut net, &[0x2c, 1]), Some(21));
         write_idle(&mut net, 65_535);
-        assert_eq!(rt; number(&mut net, &[0x2b, 1]), 0);
+        assert_eq!(rt; number(&mut net, &[0x2b, 1]), None);
         let mut draft = Draft::start(&mut sheet);
         assert!(rt; read(&mut draft, &SWAP).is_ok());
         let mut net = draft.finish();
         write_idle(&mut net, 65_536);
-        assert_eq!(rt; number(&mut net, &[0x2e, 0, 1, 0, 1]), 21);
+        assert_eq!(rt; number(&mut net, &[0x2e, 0, 1, 0, 1]), Some(21));
         write_idle(&mut net, 65_535);
-        assert_eq!(rt; number(&mut net, &[0x2e, 0, 1, 0, 1]), 0);
+        assert_eq!(rt; number(&mut net, &[0x2e, 0, 1, 0, 1]), None);
         Ok(())
     }
 
@@ -135,29 +130,29 @@ mod tests {
     fn which_book_refuses(rt: HostRuntime) -> Result<(), Fail> {
         let mut sheet = vec![in rt.alloc(); 7u32; 12_352]?;
         let mut net = Draft::start(&mut sheet).finish();
-        match house().take(&mut net, &[0x20, 0, 0]) {
-            Err(EitherFault::First(fault)) => assert_eq!(rt; fault.number(), 8),
-            _ => return Err(Fail::new("the first book refuses 20")),
-        }
-        match house().take(&mut net, &[0x28, 1, 0, 0, 0, 0, 0, 0, 0]) {
-            Err(EitherFault::Second(EitherFault::First(fault))) => assert_eq!(rt;
-                fault.number(),
-                9
-            ),
-            _ => return Err(Fail::new("the second book refuses 28")),
-        }
-        match house().take(&mut net, &[0x2a, 0]) {
-            Err(EitherFault::Second(EitherFault::Second(EitherFault::First(fault)))) => {
-                assert_eq!(rt; fault.number(), 9)
-            }
-            _ => return Err(Fail::new("the third book refuses 2a")),
-        }
-        match house().take(&mut net, &[0x2d, 0, 0, 1]) {
-            Err(EitherFault::Second(EitherFault::Second(EitherFault::Second(fault)))) => {
-                assert_eq!(rt; fault.number(), 8);
-                Ok(())
-            }
-            _ => Err(Fail::new("the fourth book refuses 2d")),
-        }
+        let Err(EitherFault::First(fault)) = house().take(&mut net, &[0x20, 0, 0]) else {
+            return Err(Fail::new("the first book refuses 20"));
+        };
+        assert_eq!(rt; fault.number(), 8);
+        let Err(EitherFault::Second(EitherFault::First(fault))) = house().take(
+            &mut net,
+            &[0x28, 1, 0, 0, 0, 0, 0, 0, 0],
+        ) else {
+            return Err(Fail::new("the second book refuses 28"));
+        };
+        assert_eq!(rt; fault.number(), 9);
+        let Err(EitherFault::Second(EitherFault::Second(EitherFault::First(fault)))) = house().take(
+            &mut net,
+            &[0x2a, 0],
+        ) else {
+            return Err(Fail::new("the third book refuses 2a"));
+        };
+        assert_eq!(rt; fault.number(), 9);
+        let Err(EitherFault::Second(EitherFault::Second(EitherFault::Second(fault)))) =
+            house().take(&mut net, &[0x2d, 0, 0, 1]) else {
+            return Err(Fail::new("the fourth book refuses 2d"));
+        };
+        assert_eq!(rt; fault.number(), 8);
+        Ok(())
     }
 }

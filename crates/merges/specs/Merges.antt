@@ -7,10 +7,9 @@ use Rattle.theory.specs.declared.refusal.Refusal.TheVariants.{NoPlace, Support, 
 use Rattle.theory.specs.Tests.{two_sided?, unmarked?}
 use Rattle.theory.specs.Steps.{merge_checks}
 use Rattle.theory.specs.Steps as steps
+use Rattle.books.specs.declared.faults.BookFault.{BookFault}
 use Rattle.books.specs.Frames.{Widths}
-use Rattle.books.specs.House.{one, house_taken}
-use Rattle.merges.specs.declared.faults.MergeFault.{MergeFault}
-use Rattle.merges.specs.Faults.{from_net, from_bytes, from_step}
+use Rattle.books.specs.House.{one, book_taken}
 
 -- The width of the operands: a place takes one byte.
 abbrev pub merge_width : Widths
@@ -30,5 +29,5 @@ abbrev pub last_lines : State → ℕ → State → List (Check Refusal)
 last_lines s p next = Marks unless unmarked? s p ∷ merge_checks s p next
 
 -- What the book gives.
-abbrev pub merge_taken : State → List ℕ → Result State MergeFault
-merge_taken s bs = house_taken from_net from_bytes from_step merge_width merge_step s bs
+abbrev pub merge_taken : State → List ℕ → Result State (BookFault Refusal 0x2a)
+merge_taken s bs = book_taken merge_width merge_step s bs

@@ -1,161 +1,185 @@
-// The conditions of the third house book's rules, of one place or one transition each.
-ghost use Rattle.std.specs.Prelude.{◌≡◌, ℕ, ◌%◌, Bool, not, ◌&&◌, ◌==◌, nat_eq, nat_lt};
-ghost use Rattle.net.specs.States.{in_support, take, put};
-ghost use Rattle.theory.specs.Tests.{◌⇒◌, every_place, some_place, every_transition, feeder?, consumer?};
+// The conditions of the third house book's steps, each by the name of its definition.
+ghost use Rattle.std.specs.Prelude.{◌≡◌, not, ◌&&◌, nat_eq, nat_lt, ◌==◌, ◌%◌};
+ghost use Rattle.net.specs.States.{view, in_support, take, put};
+ghost use Rattle.products.specs.Products.{product_row};
+ghost use Rattle.theory.specs.Tests.{◌⇒◌, every_place, every_transition, some_place, first, feeder?, consumer?, two_sided?, post_consumers?, first_weight, one_consumer?, all_equal?, post_weights?, free_feeders?, pre_feeders?, free_consumers?, products_fit?, rest_fits?};
 
 use checks::{
-    OnlyConsumer, PlaceTest, Source, TransitionTest, every_place, every_transition, put_of,
-    some_place, supports_at, take_of,
+    Consumes, Feeds, OnlyConsumer, Source, every, first, places, put_of, rest_fits, some,
+    supports_at, take_of, transitions,
 };
 use net::Net;
+use products::{Kind, products_fit};
 
-// Is the transition not both a feeder and a consumer of p?
-#[derive(Drop)]
-pub struct OneSided {
-    pub p: u8,
+// Is no transition both a feeder and a consumer of p?
+#[tactic(auto, unfolding(theory::specs::Tests::every))]
+fn are_one_sided(net: &Net<'_>, p: u8) -> bool
+    ensures { result ≡ every_transition (view net.now) (λ t. not (feeder? (view net.now) p t && consumer? (view net.now) p t)) }
+{
+    transitions(net).all(|t| put_of(net, t, p) == 0 || take_of(net, t, p) == 0)
 }
 
-impl TransitionTest for OneSided {
-    ghost holds = { λ x s t. not (feeder? s x.p t && consumer? s x.p t) };
-
-    fn test(&self, net: &Net<'_>, t: u8) -> bool {
-        put_of(net, t, self.p) == 0 || take_of(net, t, self.p) == 0
-    }
+// Has p a feeder and a consumer, and is no transition both?
+pub fn is_two_sided(net: &Net<'_>, p: u8) -> bool
+    ensures { result ≡ two_sided? (view net.now) p }
+{
+    some(net, &Feeds { p }) && some(net, &Consumes { p }) && are_one_sided(net, p)
 }
 
-// Does f take nothing from the place, unless it is p, and put nothing into it, if it is in the support?
-#[derive(Drop)]
-pub struct TakesFromAlone {
-    pub p: u8,
-    pub f: u8,
+// Does f take from p alone, and put into no support place? This sentence on consumers and that on feeders stay apart, as in the definitions.
+#[tactic(auto, unfolding(theory::specs::Tests::every))]
+fn takes_from_alone(net: &Net<'_>, p: u8, f: u8) -> bool
+    ensures { result ≡ every_place (λ q. (not (q == p) ⇒ nat_eq (take (view net.now) f q) 0) && (in_support (view net.now) q ⇒ nat_eq (put (view net.now) f q) 0)) }
+{
+    places().all(|q| {
+        (q == p || take_of(net, f, q) == 0) && (!supports_at(net, q) || put_of(net, f, q) == 0)
+    })
 }
 
-impl PlaceTest for TakesFromAlone {
-    ghost holds = { λ x s q. (not (q == x.p) ⇒ nat_eq (take s x.f q) 0) && (in_support s q ⇒ nat_eq (put s x.f q) 0) };
-
-    fn test(&self, net: &Net<'_>, q: u8) -> bool {
-        (q == self.p || take_of(net, self.f, q) == 0)
-            && (!supports_at(net, q) || put_of(net, self.f, q) == 0)
-    }
+// The same, if f is a consumer of p.
+fn is_post_consumer(net: &Net<'_>, p: u8, f: u8) -> bool
+    ensures { result ≡ (consumer? (view net.now) p f ⇒ every_place (λ q. (not (q == p) ⇒ nat_eq (take (view net.now) f q) 0) && (in_support (view net.now) q ⇒ nat_eq (put (view net.now) f q) 0))) }
+{
+    take_of(net, f, p) == 0 || takes_from_alone(net, p, f)
 }
 
-// If the transition is a consumer of p: does it take from p alone, and put into no support place?
-#[derive(Drop)]
-pub struct PostConsumer {
-    pub p: u8,
+// Post-agglomeration, on consumers: each takes from p alone, and puts into no support place.
+#[tactic(auto, unfolding(theory::specs::Tests::every))]
+pub fn are_post_consumers(net: &Net<'_>, p: u8) -> bool
+    ensures { result ≡ post_consumers? (view net.now) p }
+{
+    transitions(net).all(|f| is_post_consumer(net, p, f))
 }
 
-impl TransitionTest for PostConsumer {
-    ghost holds = { λ x s f. consumer? s x.p f ⇒ every_place (λ q. (not (q == x.p) ⇒ nat_eq (take s f q) 0) && (in_support s q ⇒ nat_eq (put s f q) 0)) };
-
-    fn test(&self, net: &Net<'_>, f: u8) -> bool {
-        take_of(net, f, self.p) == 0 || every_place(net, &TakesFromAlone { p: self.p, f })
-    }
+// The first consumer of p, the count of the transitions where there is none, as the definition of the weight has it.
+fn first_consumer(net: &Net<'_>, p: u8) -> u8
+    ensures { result ≡ first (view net.now).transitions (consumer? (view net.now) p) }
+{
+    first(net, &Consumes { p }).unwrap_or(transitions(net).end)
 }
 
-// If the transition is a feeder of p: is its weight there a multiple of this one?
-#[derive(Drop)]
-pub struct PutsMultiple {
-    pub p: u8,
-    pub weight: u32,
+// What the first consumer takes from p.
+fn weight_at(net: &Net<'_>, p: u8) -> u32
+    ensures { result ≡ first_weight (view net.now) p }
+{
+    take_of(net, first_consumer(net, p), p)
 }
 
-impl TransitionTest for PutsMultiple {
-    ghost holds = { λ x s h. feeder? s x.p h ⇒ nat_eq (put s h x.p % x.weight) 0 };
-
-    fn test(&self, net: &Net<'_>, h: u8) -> bool {
-        let given = put_of(net, h, self.p);
-        given == 0 || (self.weight > 0 && given % self.weight == 0)
-    }
+// Is each feeder's weight at p a multiple of this one?
+#[tactic(auto, unfolding(theory::specs::Tests::every))]
+fn are_multiples(net: &Net<'_>, p: u8, weight: u32) -> bool
+    ensures { result ≡ every_transition (view net.now) (λ h. feeder? (view net.now) p h ⇒ nat_eq (put (view net.now) h p % weight) 0) }
+{
+    transitions(net).all(|h| {
+        let given = put_of(net, h, p);
+        given == 0 || (weight > 0 && given % weight == 0)
+    })
 }
 
-// Is the weight of the transition at p this one, as a consumer and as a feeder?
-#[derive(Drop)]
-pub struct EqualWeight {
-    pub p: u8,
-    pub weight: u32,
+// Has p one consumer, and is every feeder's weight at p a multiple of that consumer's?
+fn has_one_consumer(net: &Net<'_>, p: u8) -> bool
+    ensures { result ≡ one_consumer? (view net.now) p }
+{
+    let only = OnlyConsumer {
+        p,
+        t: first_consumer(net, p),
+    };
+    every(net, &only) && are_multiples(net, p, weight_at(net, p))
 }
 
-impl TransitionTest for EqualWeight {
-    ghost holds = { λ x s t. (consumer? s x.p t ⇒ nat_eq (take s t x.p) x.weight) && (feeder? s x.p t ⇒ nat_eq (put s t x.p) x.weight) };
-
-    fn test(&self, net: &Net<'_>, t: u8) -> bool {
-        let taken = take_of(net, t, self.p);
-        let given = put_of(net, t, self.p);
-        (taken == 0 || taken == self.weight) && (given == 0 || given == self.weight)
-    }
+// Are all weights at p this one?
+#[tactic(auto, unfolding(theory::specs::Tests::every))]
+fn have_weight(net: &Net<'_>, p: u8, weight: u32) -> bool
+    ensures { result ≡ every_transition (view net.now) (λ t. (consumer? (view net.now) p t ⇒ nat_eq (take (view net.now) t p) weight) && (feeder? (view net.now) p t ⇒ nat_eq (put (view net.now) t p) weight)) }
+{
+    transitions(net).all(|t| {
+        let taken = take_of(net, t, p);
+        let given = put_of(net, t, p);
+        (taken == 0 || taken == weight) && (given == 0 || given == weight)
+    })
 }
 
-// Does h put nothing into the place, unless it is p, and take nothing from it, if it is in the support?
-#[derive(Drop)]
-pub struct PutsIntoAlone {
-    pub p: u8,
-    pub h: u8,
+// Are all weights at p equal?
+fn are_all_equal(net: &Net<'_>, p: u8) -> bool
+    ensures { result ≡ all_equal? (view net.now) p }
+{
+    have_weight(net, p, weight_at(net, p))
 }
 
-impl PlaceTest for PutsIntoAlone {
-    ghost holds = { λ x s q. (not (q == x.p) ⇒ nat_eq (put s x.h q) 0) && (in_support s q ⇒ nat_eq (take s x.h q) 0) };
-
-    fn test(&self, net: &Net<'_>, q: u8) -> bool {
-        (q == self.p || put_of(net, self.h, q) == 0)
-            && (!supports_at(net, q) || take_of(net, self.h, q) == 0)
-    }
+// Post-agglomeration, on weights: a consumer uses all that a feeder brings.
+pub fn are_post_weights(net: &Net<'_>, p: u8) -> bool
+    ensures { result ≡ post_weights? (view net.now) p }
+{
+    has_one_consumer(net, p) || are_all_equal(net, p)
 }
 
-// If the transition is a feeder of p: does it put 1 into p and nothing elsewhere, and take from no support place?
-#[derive(Drop)]
-pub struct FreeFeeder {
-    pub p: u8,
+// Does h put nothing elsewhere than into p, and take from no support place?
+#[tactic(auto, unfolding(theory::specs::Tests::every))]
+fn puts_into_alone(net: &Net<'_>, p: u8, h: u8) -> bool
+    ensures { result ≡ every_place (λ q. (not (q == p) ⇒ nat_eq (put (view net.now) h q) 0) && (in_support (view net.now) q ⇒ nat_eq (take (view net.now) h q) 0)) }
+{
+    places().all(|q| {
+        (q == p || put_of(net, h, q) == 0) && (!supports_at(net, q) || take_of(net, h, q) == 0)
+    })
 }
 
-impl TransitionTest for FreeFeeder {
-    ghost holds = { λ x s h. feeder? s x.p h ⇒ (put s h x.p == 1 && every_place (λ q. (not (q == x.p) ⇒ nat_eq (put s h q) 0) && (in_support s q ⇒ nat_eq (take s h q) 0))) };
-
-    fn test(&self, net: &Net<'_>, h: u8) -> bool {
-        let given = put_of(net, h, self.p);
-        given == 0 || (given == 1 && every_place(net, &PutsIntoAlone { p: self.p, h }))
-    }
+// If h is a feeder of p: does it put 1 into p and nothing elsewhere, and take from no support place?
+fn is_free_feeder(net: &Net<'_>, p: u8, h: u8) -> bool
+    ensures { result ≡ (feeder? (view net.now) p h ⇒ (put (view net.now) h p == 1 && every_place (λ q. (not (q == p) ⇒ nat_eq (put (view net.now) h q) 0) && (in_support (view net.now) q ⇒ nat_eq (take (view net.now) h q) 0)))) }
+{
+    let given = put_of(net, h, p);
+    given == 0 || (given == 1 && puts_into_alone(net, p, h))
 }
 
-// If the transition is a consumer of p: does it take 1 from p?
-#[derive(Drop)]
-pub struct FreeConsumer {
-    pub p: u8,
+// Pre- and free agglomeration, on feeders: each puts 1 into p and nothing elsewhere, and takes from no support place.
+#[tactic(auto, unfolding(theory::specs::Tests::every))]
+pub fn are_free_feeders(net: &Net<'_>, p: u8) -> bool
+    ensures { result ≡ free_feeders? (view net.now) p }
+{
+    transitions(net).all(|h| is_free_feeder(net, p, h))
 }
 
-impl TransitionTest for FreeConsumer {
-    ghost holds = { λ x s f. consumer? s x.p f ⇒ nat_eq (take s f x.p) 1 };
-
-    fn test(&self, net: &Net<'_>, f: u8) -> bool {
-        take_of(net, f, self.p) <= 1
-    }
+// If h takes from q: does no other transition?
+fn owns_source(net: &Net<'_>, h: u8, q: u8) -> bool
+    ensures { result ≡ (nat_lt 0 (take (view net.now) h q) ⇒ every_transition (view net.now) (λ u. nat_lt 0 (take (view net.now) u q) ⇒ nat_eq u h)) }
+{
+    take_of(net, h, q) == 0 || every(net, &OnlyConsumer { p: q, t: h })
 }
 
-// If h takes from the place: does no other transition?
-#[derive(Drop)]
-pub struct OwnSource {
-    pub h: u8,
+// Is h the only consumer of each place that it takes from?
+#[tactic(auto, unfolding(theory::specs::Tests::every))]
+fn owns_sources(net: &Net<'_>, h: u8) -> bool
+    ensures { result ≡ every_place (λ q. nat_lt 0 (take (view net.now) h q) ⇒ every_transition (view net.now) (λ u. nat_lt 0 (take (view net.now) u q) ⇒ nat_eq u h)) }
+{
+    places().all(|q| owns_source(net, h, q))
 }
 
-impl PlaceTest for OwnSource {
-    ghost holds = { λ x s q. nat_lt 0 (take s x.h q) ⇒ every_transition s (λ u. nat_lt 0 (take s u q) ⇒ nat_eq u x.h) };
-
-    fn test(&self, net: &Net<'_>, q: u8) -> bool {
-        take_of(net, self.h, q) == 0 || every_transition(net, &OnlyConsumer { p: q, t: self.h })
-    }
+// If h is a feeder of p: does it take from somewhere, and is it the only consumer there?
+fn is_pre_feeder(net: &Net<'_>, p: u8, h: u8) -> bool
+    ensures { result ≡ (feeder? (view net.now) p h ⇒ (some_place (λ q. nat_lt 0 (take (view net.now) h q)) && every_place (λ q. nat_lt 0 (take (view net.now) h q) ⇒ every_transition (view net.now) (λ u. nat_lt 0 (take (view net.now) u q) ⇒ nat_eq u h)))) }
+{
+    put_of(net, h, p) == 0 || (some(net, &Source { t: h }) && owns_sources(net, h))
 }
 
-// If the transition is a feeder of p: does it take from somewhere, and is it the only consumer of each place that it takes from?
-#[derive(Drop)]
-pub struct PreFeeder {
-    pub p: u8,
+// Pre-agglomeration, on feeders: each takes from somewhere, and is the only consumer of each place that it takes from.
+#[tactic(auto, unfolding(theory::specs::Tests::every))]
+pub fn are_pre_feeders(net: &Net<'_>, p: u8) -> bool
+    ensures { result ≡ pre_feeders? (view net.now) p }
+{
+    transitions(net).all(|h| is_pre_feeder(net, p, h))
 }
 
-impl TransitionTest for PreFeeder {
-    ghost holds = { λ x s h. feeder? s x.p h ⇒ (some_place (λ q. nat_lt 0 (take s h q)) && every_place (λ q. nat_lt 0 (take s h q) ⇒ every_transition s (λ u. nat_lt 0 (take s u q) ⇒ nat_eq u h))) };
+// Pre- and free agglomeration, on consumers: each takes 1 from p.
+#[tactic(auto, unfolding(theory::specs::Tests::every))]
+pub fn are_free_consumers(net: &Net<'_>, p: u8) -> bool
+    ensures { result ≡ free_consumers? (view net.now) p }
+{
+    transitions(net).all(|f| take_of(net, f, p) <= 1)
+}
 
-    fn test(&self, net: &Net<'_>, h: u8) -> bool {
-        put_of(net, h, self.p) == 0
-            || (some_place(net, &Source { t: h }) && every_place(net, &OwnSource { h }))
-    }
+// Are the numbers that an agglomeration leaves within their limits, and the products?
+pub fn merging_fits(net: &Net<'_>, kind: Kind, p: u8) -> bool
+    ensures { result ≡ (rest_fits? (view net.now) p && products_fit? (view net.now) p (product_row kind (view net.now) p)) }
+{
+    rest_fits(net, p) && products_fit(net, kind, p)
 }

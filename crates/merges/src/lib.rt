@@ -1,99 +1,32 @@
 // The third house book: agglomerations, which merge the feeders and the consumers of a place.
 #![tactic(auto)]
 
-ghost use Rattle.std.specs.Prelude.{◌≡◌, ℕ, true, ◌&&◌, refl};
+ghost use Rattle.std.specs.Prelude.{◌≡◌, true, refl};
 ghost use Rattle.net.specs.Refusals.{judged, Passes};
-ghost use Rattle.net.specs.States.{view, sized, Answered};
-ghost use Rattle.books.specs.House.{plain, own_judged};
-ghost use Rattle.merges.specs.Faults.{from_bytes, from_step, from_net, merge_number};
+ghost use Rattle.net.specs.Looks.{sheet_checks};
+ghost use Rattle.net.specs.States.{view, Answered};
+ghost use Rattle.books.specs.Faults.{book_number, from_net, from_bytes, from_step};
+ghost use Rattle.books.specs.House.{plain, owns, own_checked};
 ghost use Rattle.merges.specs.Merges.{merge_width, merge_step, merge_taken, first_lines, last_lines};
 ghost use Rattle.products.specs.Products.{product_row};
 ghost use Rattle.theory.specs.Rewrites.{merging};
-ghost use Rattle.theory.specs.Steps.{table, step, merge_checks, post_agglomerate, pre_agglomerate, free_agglomerate};
-ghost use Rattle.theory.specs.Tests.{two_sided?, post_consumers?, one_consumer?, all_equal?, post_weights?, free_feeders?, pre_feeders?, free_consumers?, products_fit?, rest_fits?};
+ghost use Rattle.theory.specs.Steps.{refusal_number, table, next, merge_checks, post_agglomerate, pre_agglomerate, free_agglomerate};
 ghost use Rattle.books.proofs.Housing.{house_keeps, house_refuses};
 ghost use Rattle.std.proofs.Common.{rules};
 
 mod conditions;
-mod faults;
 
-use books::faults::Misfit;
+use books::faults::{BookFault, Misfit};
 use books::step::Step;
-use books::{Book, byte_at, check_size, frame};
-use checks::{
-    Consumes, Feeds, OnlyConsumer, every_transition, first_transition, is_reach_only, mark_of,
-    rest_fits, some_transition, stands_at, supports_at, take_of,
-};
+use books::{Book, byte_at, frame};
+use checks::{is_reach_only, mark_of, stands_at, supports_at};
 use conditions::{
-    EqualWeight, FreeConsumer, FreeFeeder, OneSided, PostConsumer, PreFeeder, PutsMultiple,
+    are_free_consumers, are_free_feeders, are_post_consumers, are_post_weights, are_pre_feeders,
+    is_two_sided, merging_fits,
 };
-pub use faults::MergeFault;
-use net::Net;
-use products::{Kind, merge, pair_count, products_fit, row_count};
+use net::{MOST_TRANSITIONS, Net, NetFault};
+use products::{Kind, MOST_PRODUCTS, merge, pair_count, row_count};
 use theory::Refusal;
-
-// Has p a feeder and a consumer, and is no transition both?
-fn is_two_sided(net: &Net<'_>, p: u8) -> bool
-    ensures { result ≡ two_sided? (view net.now) p }
-{
-    some_transition(net, &Feeds { p })
-        && some_transition(net, &Consumes { p })
-        && every_transition(net, &OneSided { p })
-}
-
-// Post-agglomeration, on consumers: each takes from p alone, and puts into no support place.
-fn are_post_consumers(net: &Net<'_>, p: u8) -> bool
-    ensures { result ≡ post_consumers? (view net.now) p }
-{
-    every_transition(net, &PostConsumer { p })
-}
-
-// Has p one consumer, and is every feeder's weight at p a multiple of that consumer's?
-fn has_one_consumer(net: &Net<'_>, p: u8) -> bool
-    ensures { result ≡ one_consumer? (view net.now) p }
-{
-    let first = first_transition(net, &Consumes { p });
-    let weight = take_of(net, first, p);
-    every_transition(net, &OnlyConsumer { p, t: first })
-        && every_transition(net, &PutsMultiple { p, weight })
-}
-
-// Are all weights at p equal?
-fn are_all_equal(net: &Net<'_>, p: u8) -> bool
-    ensures { result ≡ all_equal? (view net.now) p }
-{
-    let first = first_transition(net, &Consumes { p });
-    let weight = take_of(net, first, p);
-    every_transition(net, &EqualWeight { p, weight })
-}
-
-// Post-agglomeration, on weights: a consumer uses all that a feeder brings.
-fn are_post_weights(net: &Net<'_>, p: u8) -> bool
-    ensures { result ≡ post_weights? (view net.now) p }
-{
-    has_one_consumer(net, p) || are_all_equal(net, p)
-}
-
-// Pre- and free agglomeration, on feeders: each puts 1 into p and nothing elsewhere, and takes from no support place.
-fn are_free_feeders(net: &Net<'_>, p: u8) -> bool
-    ensures { result ≡ free_feeders? (view net.now) p }
-{
-    every_transition(net, &FreeFeeder { p })
-}
-
-// Pre-agglomeration, on feeders: each takes from somewhere, and is the only consumer of each place that it takes from.
-fn are_pre_feeders(net: &Net<'_>, p: u8) -> bool
-    ensures { result ≡ pre_feeders? (view net.now) p }
-{
-    every_transition(net, &PreFeeder { p })
-}
-
-// Pre- and free agglomeration, on consumers: each takes 1 from p.
-fn are_free_consumers(net: &Net<'_>, p: u8) -> bool
-    ensures { result ≡ free_consumers? (view net.now) p }
-{
-    every_transition(net, &FreeConsumer { p })
-}
 
 // The first questions of an agglomeration: p stands, is outside the support, and has feeders and consumers that are apart.
 fn check_place(net: &Net<'_>, p: u8) -> Result<(), Refusal>
@@ -111,13 +44,6 @@ fn check_place(net: &Net<'_>, p: u8) -> Result<(), Refusal>
     Ok(())
 }
 
-// Are the numbers that an agglomeration leaves within their limits, and the products?
-fn merging_fits(net: &Net<'_>, kind: Kind, p: u8) -> bool
-    ensures { result ≡ (rest_fits? (view net.now) p && products_fit? (view net.now) p (product_row kind (view net.now) p)) }
-{
-    rest_fits(net, p) && products_fit(net, kind, p)
-}
-
 // The last questions of an agglomeration: the mark of p, the number of products, the transitions afterwards, and the limits.
 fn check_products(net: &Net<'_>, kind: Kind, p: u8) -> Result<(), Refusal>
     ensures { result ≡ judged (last_lines (view net.now) p (merging (product_row kind (view net.now) p) p (view net.now))) tt }
@@ -125,10 +51,10 @@ fn check_products(net: &Net<'_>, kind: Kind, p: u8) -> Result<(), Refusal>
     if mark_of(net, p) > 0 {
         return Err(Refusal::Marks);
     }
-    if pair_count(net, p) > 32 {
+    if pair_count(net, p) > MOST_PRODUCTS {
         return Err(Refusal::TooManyPairs);
     }
-    if row_count(net, p) > 96 {
+    if row_count(net, p) > MOST_TRANSITIONS {
         return Err(Refusal::TooManyRows);
     }
     if !merging_fits(net, kind, p) {
@@ -183,41 +109,11 @@ fn check_free(net: &Net<'_>, p: u8) -> Result<(), Refusal>
 }
 
 // Replaces the feeders and consumers of p by their products, where the last questions have passed.
-fn merge_products(net: &mut Net<'_>, kind: Kind, p: u8)
-    requires { (sized (view net.old) ≡ true) × (Passes (merge_checks (view net.old) p (merging (product_row kind (view net.old) p) p (view net.old)))) }
-    ensures { view net.new ≡ merging (product_row kind (view net.old) p) p (view net.old) }
+fn merge_products(net: &mut Net<'_>, kind: Kind, p: u8) -> Result<(), NetFault>
+    requires { Passes (merge_checks (view net.old) p (merging (product_row kind (view net.old) p) p (view net.old))) }
+    ensures { Answered result (view net.new) (view net.old) (judged (sheet_checks (view net.old)) (merging (product_row kind (view net.old) p) p (view net.old))) }
 {
-    let _ = merge(net, kind, p);
-}
-
-// Takes a post-agglomeration, if its conditions hold.
-fn take_post(net: &mut Net<'_>, p: u8) -> Result<(), Refusal>
-    requires { sized (view net.old) ≡ true }
-    ensures { Answered result (view net.new) (view net.old) (step (view net.old) (post_agglomerate p)) }
-{
-    check_post(net, p)?;
-    merge_products(net, Kind::Post, p);
-    Ok(())
-}
-
-// Takes a pre-agglomeration, if its conditions hold.
-fn take_pre(net: &mut Net<'_>, p: u8) -> Result<(), Refusal>
-    requires { sized (view net.old) ≡ true }
-    ensures { Answered result (view net.new) (view net.old) (step (view net.old) (pre_agglomerate p)) }
-{
-    check_pre(net, p)?;
-    merge_products(net, Kind::Pre, p);
-    Ok(())
-}
-
-// Takes a free agglomeration, if its conditions hold.
-fn take_free(net: &mut Net<'_>, p: u8) -> Result<(), Refusal>
-    requires { sized (view net.old) ≡ true }
-    ensures { Answered result (view net.new) (view net.old) (step (view net.old) (free_agglomerate p)) }
-{
-    check_free(net, p)?;
-    merge_products(net, Kind::Pre, p);
-    Ok(())
+    merge(net, kind, p)
 }
 
 // The operand width for a first byte that this book owns.
@@ -230,7 +126,7 @@ fn merge_width(first: u8) -> Option<u8>
     }
 }
 
-// The step in the bytes of a whole step.
+// The step in the bytes of a whole step. Its first byte is a number here and in the widths: a kind between byte and step would name each step once more.
 fn decode<'a>(bytes: &'a [u8]) -> Step<'a>
     ensures { plain result ≡ merge_step bytes.now }
 {
@@ -242,23 +138,39 @@ fn decode<'a>(bytes: &'a [u8]) -> Step<'a>
     }
 }
 
-// Judges and takes a decoded step of this book; one of another book is unknown here.
-fn apply(net: &mut Net<'_>, step: Step<'_>) -> Result<(), MergeFault>
-    requires { sized (view net.old) ≡ true }
-    ensures { Answered result (view net.new) (view net.old) (own_judged from_bytes from_step merge_width (view net.old) (plain step.entry)) }
+// The questions of a decoded step of this book; one of another book is unknown here.
+fn check(net: &Net<'_>, step: Step<'_>) -> Result<(), MergeFault>
+    ensures { result ≡ own_checked from_bytes from_step merge_width (view net.now) (plain step.entry) }
 {
     match step {
-        Step::PostAgglomerate(p) => take_post(net, p)?,
-        Step::PreAgglomerate(p) => take_pre(net, p)?,
-        Step::FreeAgglomerate(p) => take_free(net, p)?,
-        _ => return Err(MergeFault::Bytes(Misfit::Unknown)),
+        Step::PostAgglomerate(p) => check_post(net, p)?,
+        Step::PreAgglomerate(p) => check_pre(net, p)?,
+        Step::FreeAgglomerate(p) => check_free(net, p)?,
+        _ => return Err(BookFault::Bytes(Misfit::Unknown)),
     }
     Ok(())
 }
 
+// Takes a step of this book whose questions have passed.
+fn rewrite(net: &mut Net<'_>, step: Step<'_>) -> Result<(), NetFault>
+    requires own { owns merge_width (plain step) ≡ true }
+    requires passes { Passes (table (view net.old) (plain step)) }
+    ensures { Answered result (view net.new) (view net.old) (judged (sheet_checks (view net.old)) (next (view net.old) (plain step.entry))) }
+{
+    match step {
+        Step::PostAgglomerate(p) => merge_products(net, Kind::Post, p),
+        Step::PreAgglomerate(p) | Step::FreeAgglomerate(p) => merge_products(net, Kind::Pre, p),
+        _ => Ok(()),
+    }
+}
+
 // The third house book.
-#[derive(Clone, Copy)]
+// It implements `Book` itself: one impl for all four would need a public trait whose calls ask something of their caller.
+#[derive(Clone, Copy, Debug, PartialEq, Eq)]
 pub struct Merges;
+
+// Why this book, which owns the bytes from 2A, refuses a step.
+pub type MergeFault = BookFault<Refusal, 0x2A>;
 
 impl Book for Merges {
     type Fault = MergeFault;
@@ -271,15 +183,18 @@ impl Book for Merges {
 
     ghost narrow = { Prim.search rules };
 
-    ghost refuses = { house_refuses from_net from_bytes from_step merge_width merge_step merge_number (λ e. refl) };
+    ghost refuses = { house_refuses from_net from_bytes from_step merge_width merge_step (book_number refusal_number) (λ e. refl) };
 
     fn width(&self, first: u8) -> Option<u8> {
         merge_width(first)
     }
 
     fn take(&self, net: &mut Net<'_>, step: &[u8]) -> Result<(), MergeFault> {
-        check_size(net)?;
+        net.check_size()?;
         frame(merge_width(byte_at(step, 0)), step)?;
-        apply(net, decode(step))
+        let step = decode(step);
+        check(net, step)?;
+        rewrite(net, step)?;
+        Ok(())
     }
 }

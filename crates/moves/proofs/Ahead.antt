@@ -1,10 +1,8 @@
 -- The marks after firings ahead of time, and the last line of the table.
-use Rattle.std.proofs.Common.{◌≡◌, ℕ, ◌<◌, ◌≤◌, Bool, true, ◌&&◌, leb, Ok, Result, sym, ◌∙◌}
+use Rattle.std.proofs.Common.{◌≡◌, ℕ, ◌<◌, ◌≤◌, Bool, true, ◌&&◌, leb, sym, ◌∙◌}
 use Rattle.std.proofs.lemmas.Bool.{leb-true, ltb-true, and_parts}
-use Rattle.net.specs.Refusals.{judged}
+use Rattle.net.specs.Refusals.{Passes}
 use Rattle.net.specs.States.{State}
-use Rattle.net.proofs.Tables.{passed}
-use Rattle.theory.specs.declared.refusal.Refusal.{Refusal}
 use Rattle.theory.specs.Rewrites.{firing_ahead}
 use Rattle.theory.specs.Steps.{there, in_limits?, table, fire_ahead}
 use Rattle.theory.specs.Tests.{mark_ahead, ahead_fits?, rows_fit?}
@@ -21,8 +19,6 @@ pub ahead_limits : (s : State) (t k : ℕ) → s.transitions ≤ 96 → there s 
 ahead_limits s t k few h b e = ahead_in_limits s t k (ltb-true t s.transitions h) few ∙ sym e
 
 -- So they are where the whole table passes.
-pub ahead_passed : (s : State) (t k : ℕ) → s.transitions ≤ 96 → ◌≡◌ {A = Result Unit Refusal} (judged (table s (fire_ahead t k)) tt) (Ok tt)
-    → ahead_fits? s t k ≡ true
-ahead_passed s t k few h =
-    let lines = (passed (table s (fire_ahead t k)) tt tt h).0 in
+pub ahead_passed : (s : State) (t k : ℕ) → s.transitions ≤ 96 → Passes (table s (fire_ahead t k)) → ahead_fits? s t k ≡ true
+ahead_passed s t k few lines =
     (and_parts (rows_fit? s) (ahead_fits? s t k) (sym (ahead_in_limits s t k (ltb-true t s.transitions lines.0) few) ∙ lines.1.1.1.1.0)).1

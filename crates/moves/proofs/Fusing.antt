@@ -1,16 +1,15 @@
 -- Two places are fused: the numbers of one are added to those of the other, and then it goes.
-use Rattle.std.proofs.Common.{◌≡◌, ℕ, zero, suc, ◌+◌, ◌*◌, ◌/◌, ◌%◌, ◌<◌, ◌≤◌, Bool, true, false, cond, ◌&&◌, eqb, leb, ◌≢◌, ◌⊎◌, List, ◌∷◌, map, length, get_or, set, Ok, Err, Result, sym, refl, ap, ◌∙◌, inl, inr, arith}
+use Rattle.std.proofs.Common.{◌≡◌, ℕ, zero, suc, ◌+◌, ◌*◌, ◌/◌, ◌%◌, ◌<◌, ◌≤◌, Bool, true, false, cond, ◌&&◌, eqb, leb, ◌≢◌, ◌⊎◌, List, ◌∷◌, map, length, get_or, set, Ok, Err, Result, sym, refl, ap, ◌∙◌, inl, inr, arith, []}
 use mathlib.Core.Path.{fun_ext}
 use Rattle.std.specs.List.{range_with_len}
 use Rattle.std.proofs.lemmas.Bool.{and_parts, eqb-true, leb-true, cases_lt, lt-ltb, eq-eqb, ne_eqb, cond-true, cond-false}
 use Rattle.net.specs.declared.net.NetFault.{NetFault}
-use Rattle.net.specs.declared.net.NetFault.TheVariants.{WrongSize, NoPlace}
-use Rattle.net.specs.Looks.{place_checks}
-use Rattle.net.specs.Refusals.{judged}
+use Rattle.net.specs.declared.net.NetFault.TheVariants.{WrongSize}
+use Rattle.net.specs.Looks.{measured, sheet_checks, place_checks}
+use Rattle.net.proofs.Tables.{passed, passing}
+use Rattle.net.specs.Refusals.{◌unless◌, judged, Passes}
 use Rattle.net.specs.Sheets.{Row, row_at, rows_in, part, most_weight}
-use Rattle.net.specs.States.{State, stands, mark, take, put, left, Answered}
-use Rattle.net.proofs.Tables.{passed}
-use Rattle.theory.specs.declared.refusal.Refusal.{Refusal}
+use Rattle.net.specs.States.{State, stands, mark, take, put, left, Answered, sized, said}
 use Rattle.theory.specs.Nexts.{off, fuse}
 use Rattle.theory.specs.Rewrites.{rewritten, off_row, leaving, fuse_row, fusing}
 use Rattle.theory.specs.Steps.{in_limits?, table, fuse_places}
@@ -51,23 +50,22 @@ module _ (s : State) (p q : ℕ) (a : p < 64) (b : q < 64) (fits : fusion_fits? 
       go (inr h) = let e = sum (suc k) (128 + 128 * t) (omega arith) in omega (arith, e, (weights t (omega arith)).1)
 
 -- The last line of the table asks whether all numbers are within their limits before the fusion, and the sums.
-module _ (s : State) (p q a : ℕ) (few : s.transitions ≤ 96) where
-  below : carries? s a p q ≡ true → (p < 64) × (q < 64)
+module _ (s : State) (p q a b : ℕ) (few : s.transitions ≤ 96) where
+  below : (carries? s a p q && carries? s b q p) ≡ true → (p < 64) × (q < 64)
   below h =
-      let x = and_parts (eqb (take s a p) 1) _ h in
+      let x = and_parts (eqb (take s a p) 1) _ (and_parts (carries? s a p q) (carries? s b q p) h).0 in
       let y = and_parts (eqb (put s a q) 1) _ x.1 in (
         take_below s a p (omega (arith, eqb-true (take s a p) 1 x.0)),
         put_below s a q (omega (arith, eqb-true (put s a q) 1 y.0)),
       )
 
-  pub fusion_limits : carries? s a p q ≡ true → (c : Bool) → c ≡ (in_limits? s && fusion_fits? s p q) → in_limits? (fusing p q s) ≡ c
+  pub fusion_limits : (carries? s a p q && carries? s b q p) ≡ true → (c : Bool) → c ≡ (in_limits? s && fusion_fits? s p q) → in_limits? (fusing p q s) ≡ c
   fusion_limits h c e = let x = below h in fusion_in_limits s p q x.0 x.1 few ∙ sym e
 
   -- So the sums are where the whole table passes.
-  pub fusion_passed : (b : ℕ) → ◌≡◌ {A = Result Unit Refusal} (judged (table s (fuse_places p q a b)) tt) (Ok tt) → fusion_fits? s p q ≡ true
-  fusion_passed b h =
-      let lines = (passed (table s (fuse_places p q a b)) tt tt h).0 in
-      let x = below (and_parts (carries? s a p q) (carries? s b q p) lines.1.1.1.1.0).0 in
+  pub fusion_passed : Passes (table s (fuse_places p q a b)) → fusion_fits? s p q ≡ true
+  fusion_passed lines =
+      let x = below lines.1.1.1.1.0 in
       (and_parts (in_limits? s) (fusion_fits? s p q) (sym (fusion_in_limits s p q x.0 x.1 few) ∙ lines.1.1.1.1.1.0)).1
 
 -- Rows that are changed alike, one by one.
@@ -123,11 +121,19 @@ module _ (s : State) (ys : List ℕ) (p q : ℕ) (a : p < 64) (b : q < 64) (diff
 
   -- The place goes, since it stands.
   pub fused_net : (r : Result Unit NetFault) (t : State) → length ys ≡ 12352 → stands s q ≡ true
-      → Answered r t added (judged (place_checks added q) (leaving q added)) → t ≡ fusing p q s
-  fused_net r t size h k = k.state ∙ passes ∙ left_fused
+      → Answered r t added (judged (place_checks added q) (leaving q added)) → (r ≡ Ok tt) × (t ≡ fusing p q s)
+  fused_net r t size h k = (k.answer ∙ ap said whole, k.state ∙ ap (left added) whole ∙ left_fused)
     where
-      passes : left added (judged (place_checks added q) (leaving q added)) ≡ leaving q added
-      passes =
-          ap (λ (c : Bool). left added (cond {A = Result State NetFault} c (cond (stands s q) (Ok (leaving q added)) (Err NoPlace)) (Err WrongSize)))
-          (eq-eqb (length ys) 12352 size)
-          ∙ ap (λ (c : Bool). left added (cond {A = Result State NetFault} c (Ok (leaving q added)) (Err NoPlace))) h
+      whole : judged (place_checks added q) (leaving q added) ≡ Ok (leaving q added)
+      whole = passing (place_checks added q) (leaving q added) (eq-eqb (length ys) 12352 size, (h, tt))
+
+-- A call that asks the size first answers as a table with that line alone.
+pub asked_size : (s : State) → measured s.sheet ≡ Ok tt → sized s ≡ true
+asked_size s h = (passed (WrongSize unless sized s ∷ []) tt tt h).0.0
+
+pub size_asked : (s next t : State) (r : Result Unit NetFault) → sized s ≡ true → (r ≡ Ok tt) × (t ≡ next) → Answered r t s (judged (sheet_checks s) next)
+size_asked s next t r e d =
+    record {
+      answer = d.0 ∙ ap (λ (b : Bool). said (cond {A = Result State NetFault} b (Ok next) (Err WrongSize))) (sym e);
+      state = d.1 ∙ ap (λ (b : Bool). left s (cond {A = Result State NetFault} b (Ok next) (Err WrongSize))) (sym e);
+    }

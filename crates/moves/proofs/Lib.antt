@@ -1,2 +1,4 @@
 pub mod Ahead
 pub mod Fusing
+pub mod Owning
+pub mod Sources

@@ -2,11 +2,11 @@
 use Rattle.std.specs.Prelude.{ℕ, Bool, cond, not, ◌&&◌, List, Some, None, Result, ◌==◌, nat_eq, nat_lt}
 use Rattle.net.specs.States.{State, in_support, take, put}
 use Rattle.theory.specs.Steps as steps
+use Rattle.theory.specs.declared.refusal.Refusal.{Refusal}
 use Rattle.theory.specs.Tests.{◌⇒◌, every_place, every_transition}
+use Rattle.books.specs.declared.faults.BookFault.{BookFault}
 use Rattle.books.specs.Frames.{Widths}
-use Rattle.books.specs.House.{one, two, house_taken}
-use Rattle.moves.specs.declared.faults.MoveFault.{MoveFault}
-use Rattle.moves.specs.Faults.{from_net, from_bytes, from_step}
+use Rattle.books.specs.House.{one, two, book_taken}
 
 -- The width of the operands: a transition or a place takes one byte, a factor two.
 abbrev pub move_width : Widths
@@ -18,8 +18,8 @@ move_step bs =
     cond (one bs 0 == 0x2d) (steps.fire_ahead (one bs 1) (two bs 2)) (steps.fuse_places (one bs 1) (one bs 2) (one bs 3) (one bs 4))
 
 -- What the book gives.
-abbrev pub move_taken : State → List ℕ → Result State MoveFault
-move_taken s bs = house_taken from_net from_bytes from_step move_width move_step s bs
+abbrev pub move_taken : State → List ℕ → Result State (BookFault Refusal 0x2d)
+move_taken s bs = book_taken move_width move_step s bs
 
 -- The last parts of the test of arcs of 2D, of any place `p` in place of the source: `t` puts nothing into `p` and nothing into the support, and
 -- `p` is outside the support; before that, `t` takes from no other place, and no other transition takes from `p`.

@@ -1,4 +1,3 @@
-pub mod Places
 pub mod Writes
 pub mod Tables
 pub mod Keeps

@@ -1,19 +1,19 @@
 -- What each call of a draft does to its state: the table of its refusals, and the next state.
-use Rattle.std.specs.Prelude.{ℕ, suc, ◌+◌, ◌≤◌, Bool, true, false, cond, ◌&&◌, nat_lt, nat_le, List, [], ◌∷◌, ◌++◌, length, Result, ◌==◌, nat_eq, slice_index, slice_set}
+use Rattle.std.specs.Prelude.{ℕ, ◌+◌, ◌≤◌, Bool, true, cond, not, ◌&&◌, nat_lt, nat_le, List, [], ◌∷◌, ◌++◌, length, Result, ◌==◌, nat_eq, slice_index, slice_set}
 use Rattle.net.specs.declared.net.NetFault.{NetFault}
 use Rattle.net.specs.declared.net.NetFault.TheVariants.{WrongSize, TooManyPlaces, BadFlag, TooManyTransitions, BadWeight, ArcExists, BadQuestion}
+use Rattle.std.specs.List.{position_or_len}
+use Rattle.net.specs.declared.net.Side.{Side}
 use Rattle.net.specs.declared.net.Question.{Question}
 use Rattle.net.specs.declared.net.Question.TheVariants.{Reach, Standstill, Both}
-use Rattle.net.specs.Sheets.{most_places, most_transitions, most_weight, most_mark, sheet_size, takes_base, puts_base}
+use Rattle.net.specs.Sheets.{most_places, most_transitions, most_weight, most_mark, sheet_size, base, takes_base, puts_base}
 use Rattle.net.specs.Refusals.{Check, ◌unless◌, judged}
 use Rattle.net.specs.States.{State, sized, bare, empty, left}
 use Rattle.net.specs.Looks.{sheet_checks, arc_checks}
 
 -- The lowest number that no place has: places of a draft are numbered in the order in which they come.
 abbrev pub next_place : List Bool → ℕ
-next_place [] = 0
-next_place (true ∷ fs) = suc (next_place fs)
-next_place (false ∷ fs) = 0
+next_place fs = position_or_len not fs
 
 -- A place: its start mark, and whether it is in the support.
 abbrev pub place_table : State → ℕ → List (Check NetFault)
@@ -65,7 +65,10 @@ with_number s i w =
     }
 
 abbrev pub arc_table : State → ℕ → ℕ → ℕ → ℕ → List (Check NetFault)
-arc_table s base t p w = arc_checks s t p ++ weight_checks s (base + p) w
+arc_table s from t p w = arc_checks s t p ++ weight_checks s (from + p) w
+
+abbrev pub arc_added : State → Side → ℕ → ℕ → ℕ → Result State NetFault
+arc_added s d t p w = judged (arc_table s (base d t) t p w) (with_number s (base d t + p) w)
 
 abbrev pub arc_in_added : State → ℕ → ℕ → ℕ → Result State NetFault
 arc_in_added s t p w = judged (arc_table s (takes_base t) t p w) (with_number s (takes_base t + p) w)
@@ -77,8 +80,14 @@ arc_out_added s t p w = judged (arc_table s (puts_base t) t p w) (with_number s 
 abbrev pub question_of : ℕ → Question
 question_of q = cond (nat_le q 1) Reach (cond (q == 2) Standstill Both)
 
+abbrev pub number_checks : ℕ → List (Check NetFault)
+number_checks q = BadQuestion unless nat_le q 3 ∷ []
+
+abbrev pub question_asked : ℕ → Result Question NetFault
+question_asked q = judged (number_checks q) (question_of q)
+
 abbrev pub question_table : State → ℕ → List (Check NetFault)
-question_table s q = WrongSize unless sized s ∷ BadQuestion unless nat_le q 3 ∷ []
+question_table s q = WrongSize unless sized s ∷ number_checks q
 
 abbrev pub with_question : State → ℕ → State
 with_question s q =

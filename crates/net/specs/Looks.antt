@@ -4,7 +4,8 @@ use Rattle.net.specs.declared.net.Look.{Look}
 use Rattle.net.specs.declared.net.Look.TheVariants as look
 use Rattle.net.specs.declared.net.NetFault.{NetFault}
 use Rattle.net.specs.declared.net.NetFault.TheVariants.{WrongSize, NoTransition, NoPlace}
-use Rattle.net.specs.Sheets.{sheet_size}
+use Rattle.net.specs.declared.net.Side.{Side}
+use Rattle.net.specs.Sheets.{sheet_size, base, part}
 use Rattle.net.specs.Refusals.{Check, ◌unless◌, judged}
 use Rattle.net.specs.States.{State, sized, stands, in_support, mark, take, put, question_number}
 
@@ -32,6 +33,10 @@ place_checked s p = judged (place_checks s p) tt
 
 abbrev pub arc_checked : State → ℕ → ℕ → Result Unit NetFault
 arc_checked s t p = judged (arc_checks s t p) tt
+
+-- The weight of transition `t` at a place, on one side.
+abbrev pub weighed : State → Side → ℕ → ℕ → Result ℕ NetFault
+weighed s d t p = judged (arc_checks s t p) (part s.sheet (base d t) p)
 
 abbrev pub looked : State → Look → Result ℕ NetFault
 looked s look.Transitions = judged (sheet_checks s) s.transitions

@@ -4,6 +4,7 @@ use Rattle.net.specs.declared.net.NetFault.{NetFault}
 use Rattle.net.specs.declared.net.NetFault.TheVariants.{WrongSize, TooManyPlaces, BadFlag, TooManyTransitions, NoTransition, NoPlace, BadWeight, ArcExists, BadQuestion}
 use Rattle.net.specs.declared.net.Layer.{Layer}
 use Rattle.net.specs.declared.net.Layer.TheVariants as layer
+use Rattle.net.specs.declared.net.Origin.{Origin}
 use Rattle.net.specs.declared.net.Told.{Told}
 use Rattle.net.specs.declared.net.Placed.{Placed}
 
@@ -38,11 +39,15 @@ net_number BadWeight = 10
 net_number ArcExists = 11
 net_number BadQuestion = 12
 
--- What a refusal of the net tells: a call without bytes has byte 0 and count 0.
-abbrev pub net_told : NetFault → Told
-net_told e = record { number = net_number e; layer = layer.Net; byte = 0; count = 0 }
+-- Where a refusal of a layer arises: at byte `b`, after `n` commands or steps. In a call without bytes both are 0.
+abbrev pub origin_at : Layer → ℕ → ℕ → Origin
+origin_at l b n = record { layer = l; byte = b; count = n }
 
--- A result whose fault has its layer, byte and count beside it.
-abbrev pub placed : {X F : Type 0} → Result X F → Layer → ℕ → ℕ → Result X (Placed F)
-placed (Ok x) l b n = Ok x
-placed (Err f) l b n = Err (record { fault = f; layer = l; byte = b; count = n })
+-- What a refusal of the net tells.
+abbrev pub net_told : NetFault → Told
+net_told e = record { number = net_number e; origin = origin_at layer.Net 0 0 }
+
+-- A result whose fault has where it arose beside it.
+abbrev pub placed : {X F : Type 0} → Result X F → Origin → Result X (Placed F)
+placed (Ok x) o = Ok x
+placed (Err f) o = Err (record { fault = f; origin = o })

@@ -1,6 +1,8 @@
 -- The sheet: 12,352 numbers that hold the start marks and the rows of takes and puts of a net.
 use Rattle.std.specs.Prelude.{ℕ, ◌+◌, ◌-◌, ◌*◌, ◌/◌, ◌%◌, cond, List, map, nat_lt, slice_index, slice_index_or}
 use Rattle.std.specs.List.{range_with_len}
+use Rattle.net.specs.declared.net.Side.{Side}
+use Rattle.net.specs.declared.net.Side.TheVariants.{Takes, Puts}
 
 -- The limits of a net.
 abbrev pub most_places : ℕ
@@ -26,9 +28,14 @@ takes_base t = 64 + 128 * t
 abbrev pub puts_base : ℕ → ℕ
 puts_base t = 128 + 128 * t
 
--- The 64 numbers of a sheet from `base` on, by place: 0 past the last place.
+-- Where the weights of transition `t` on one side begin.
+abbrev pub base : Side → ℕ → ℕ
+base Takes t = takes_base t
+base Puts t = puts_base t
+
+-- The 64 numbers of a sheet from `from` on, by place: 0 past the last place.
 abbrev pub part : List ℕ → ℕ → ℕ → ℕ
-part xs base p = cond (nat_lt p most_places) (slice_index xs (base + p)) 0
+part xs from p = cond (nat_lt p most_places) (slice_index xs (from + p)) 0
 
 -- The start mark of place `p`, and what transition `t` takes from it and puts there.
 abbrev pub mark_at : List ℕ → ℕ → ℕ

@@ -1,30 +1,30 @@
 // The net on a lent sheet: the draft that fills it, and the readings of it.
 #![tactic(auto)]
 
-ghost use Rattle.std.specs.Prelude.{◌≡◌, ℕ, ◌+◌, ◌*◌, ◌<◌, ◌≤◌, Bool, true, false, List, [], length, Ok, Err, Result, slice_index_or};
-ghost use Rattle.net.specs.declared.net.Look.TheVariants.{Mark, Take, Put, Support};
-ghost use Rattle.net.specs.Sheets.{sheet_of};
-ghost use Rattle.net.specs.Refusals.{judged, net_told, placed};
-ghost use Rattle.net.specs.States.{view, stands, in_support, question_number, said, Answered};
-ghost use Rattle.net.specs.Looks.{looked, measured, place_checked, arc_checked};
+ghost use Rattle.std.specs.Prelude.{◌≡◌, ◌<◌, true, false, [], length, not, position, Ok, slice_index_or};
+ghost use Rattle.net.specs.declared.net.Look.TheVariants.{Mark, Support};
+ghost use Rattle.net.specs.Sheets.{base, sheet_of};
+ghost use Rattle.net.specs.Refusals.{judged, origin_at, net_told, placed};
+ghost use Rattle.net.specs.States.{view, question_number, Answered};
+ghost use Rattle.net.specs.Looks.{looked, weighed, measured, place_checked, arc_checked};
 ghost use Rattle.net.specs.Qualities.{Sound, DraftsHaveQualities};
 ghost use Rattle.net.specs.Views.{drafted};
-ghost use Rattle.net.specs.Drafts.{next_place, place_added, transition_added, weight_checks, with_number, arc_in_added, arc_out_added, question_of, question_told, cleared, started};
+ghost use Rattle.net.specs.Drafts.{next_place, place_added, transition_added, weight_checks, with_number, arc_added, arc_in_added, arc_out_added, question_asked, question_told, cleared, started};
 
 mod draft;
 mod net;
 
 pub use draft::Draft;
-pub use net::{Layer, Look, Net, NetFault, Placed, Question, Shape, Told};
+pub use net::{Layer, Look, Net, NetFault, Origin, Placed, Position, Question, Shape, Side, Told};
 
 // The size of a sheet, the most places and transitions of a net, and the largest weight.
-const SHEET_SIZE: usize = 12_352;
+pub const SHEET_SIZE: usize = 12_352;
 
-const MOST_PLACES: usize = 64;
+pub const MOST_PLACES: usize = 64;
 
-const MOST_TRANSITIONS: usize = 96;
+pub const MOST_TRANSITIONS: usize = 96;
 
-const MOST_WEIGHT: u32 = 65_535;
+pub const MOST_WEIGHT: u32 = 65_535;
 
 // What is known of the empty net.
 const EMPTY: Shape = Shape {
@@ -33,6 +33,51 @@ const EMPTY: Shape = Shape {
     support: [false; 64],
     question: Question::Reach,
 };
+
+// The number of the question.
+impl From<Question> for u32 {
+    ghost from_gives = { λ q r. r ≡ question_number q };
+
+    fn from(question: Question) -> u32 {
+        match question {
+            Question::Reach => 1,
+            Question::Standstill => 2,
+            Question::Both => 3,
+        }
+    }
+}
+
+// The question of a number: 0, as if nobody had told one, is kept as 1.
+impl TryFrom<u32> for Question {
+    type Error = NetFault;
+
+    ghost try_from_gives = { λ n r. r ≡ question_asked n };
+
+    fn try_from(number: u32) -> Result<Question, NetFault> {
+        match number {
+            0 | 1 => Ok(Question::Reach),
+            2 => Ok(Question::Standstill),
+            3 => Ok(Question::Both),
+            _ => Err(NetFault::BadQuestion),
+        }
+    }
+}
+
+impl Position {
+    // Before any command or step, and in a call without bytes.
+    pub const START: Position = Position { byte: 0, count: 0 };
+
+    // Where a refusal of this layer arises here.
+    pub fn origin(self, layer: Layer) -> Origin
+        ensures { result ≡ origin_at layer self.byte self.count }
+    {
+        Origin {
+            layer,
+            byte: self.byte,
+            count: self.count,
+        }
+    }
+}
 
 impl NetFault {
     // The number, layer and place of the refusal.
@@ -52,31 +97,16 @@ impl NetFault {
         };
         Told {
             number,
-            layer: Layer::Net,
-            byte: 0,
-            count: 0,
+            origin: Position::START.origin(Layer::Net),
         }
     }
 }
 
-// Adds the layer and the place to a lower fault.
-pub fn at_place<T, F>(
-    r: Result<T, F>,
-    layer: Layer,
-    byte: usize,
-    count: usize,
-) -> Result<T, Placed<F>>
-    ensures { result ≡ placed r layer byte count }
+// Says of a lower fault where it arose.
+pub fn at_place<T, F>(r: Result<T, F>, origin: Origin) -> Result<T, Placed<F>>
+    ensures { result ≡ placed r origin }
 {
-    match r {
-        Ok(x) => Ok(x),
-        Err(fault) => Err(Placed {
-            fault,
-            layer,
-            byte,
-            count,
-        }),
-    }
+    r.map_err(|fault| Placed { fault, origin })
 }
 
 // Has the sheet the size of a net's sheet?
@@ -95,31 +125,23 @@ fn wipe(sheet: &mut [u32])
     requires { length sheet.old ≡ 12352 }
     ensures { sheet.new ≡ sheet_of (λ _. 0) [] }
 {
-    for x in sheet.iter_mut() {
-        *x = 0;
-    }
+    sheet.fill(0);
 }
 
 // Clears a sheet of the right size, and leaves another as it is.
 fn prepare(sheet: &mut [u32])
     ensures { sheet.new ≡ (started sheet.old).sheet }
 {
-    if sheet.len() != SHEET_SIZE {
-        return;
+    if measure(sheet).is_ok() {
+        wipe(sheet);
     }
-    wipe(sheet);
 }
 
-// The lowest number that no place has.
-fn next_place(standing: &[bool; 64]) -> usize
-    ensures { result ≡ next_place standing.now }
+// The lowest number that no place has, if a net may have one more.
+fn next_place(standing: &[bool; 64]) -> Option<usize>
+    ensures { result ≡ position not standing.now }
 {
-    for p in 0..64 {
-        if !standing[p] {
-            return p;
-        }
-    }
-    64
+    standing.iter().position(|stands| !*stands)
 }
 
 // The flag of a place: false past the last one.
@@ -127,55 +149,52 @@ pub fn flag_at(flags: &[bool; 64], p: usize) -> bool
     ensures value { result ≡ slice_index_or flags.now p false }
     ensures within { result ≡ true → p < 64 }
 {
-    if p < MOST_PLACES { flags[p] } else { false }
+    flags.get(p).copied().unwrap_or(false)
 }
 
-impl Question {
-    // The number of the question.
-    pub fn number(self) -> u32
-        ensures { result ≡ question_number self }
+impl Side {
+    // Where the weights of transition t on this side begin in the sheet.
+    fn base(self, t: usize) -> usize
+        requires { t < 96 }
+        ensures { result ≡ base self t }
     {
         match self {
-            Question::Reach => 1,
-            Question::Standstill => 2,
-            Question::Both => 3,
+            Side::Takes => 64 + 128 * t,
+            Side::Puts => 128 + 128 * t,
         }
     }
 }
 
 impl Net<'_> {
     // Has the sheet the size of a net's sheet?
-    fn check_sheet(&self) -> Result<(), NetFault>
+    pub fn check_size(&self) -> Result<(), NetFault>
         ensures { result ≡ measured (view self.now).sheet }
     {
         measure(self.sheet)
     }
 
-    // May a call name this transition and this place?
-    fn check_arc(&self, t: usize, p: usize) -> Result<(), NetFault>
-        ensures value { result ≡ arc_checked (view self.now) t p }
-        ensures within { result ≡ Ok tt → (length self.now.sheet.now ≡ 12352) × (t < 96) × (p < 64) }
+    // May a call name this place?
+    pub fn check_place(&self, p: usize) -> Result<(), NetFault>
+        ensures value { result ≡ place_checked (view self.now) p }
+        ensures within { result ≡ Ok tt → (length self.now.sheet.now ≡ 12352) × (p < 64) }
     {
-        self.check_sheet()?;
-        if t >= self.shape.transitions {
-            return Err(NetFault::NoTransition);
-        }
+        self.check_size()?;
         if !flag_at(&self.shape.standing, p) {
             return Err(NetFault::NoPlace);
         }
         Ok(())
     }
 
-    // May a call name this place?
-    fn check_place(&self, p: usize) -> Result<(), NetFault>
-        ensures value { result ≡ place_checked (view self.now) p }
-        ensures within { result ≡ Ok tt → (length self.now.sheet.now ≡ 12352) × (p < 64) }
+    // May a call name this transition and this place?
+    pub fn check_arc(&self, t: usize, p: usize) -> Result<(), NetFault>
+        ensures value { result ≡ arc_checked (view self.now) t p }
+        ensures within { result ≡ Ok tt → (length self.now.sheet.now ≡ 12352) × (t < 96) × (p < 64) }
     {
-        self.check_sheet()?;
-        if !flag_at(&self.shape.standing, p) {
-            return Err(NetFault::NoPlace);
+        self.check_size()?;
+        if t >= self.shape.transitions {
+            return Err(NetFault::NoTransition);
         }
-        Ok(())
+        self.check_place(p)
     }
 
     // The start mark of a place.
@@ -186,20 +205,12 @@ impl Net<'_> {
         Ok(self.sheet[p])
     }
 
-    // What a transition takes from a place.
-    fn take(&self, t: usize, p: usize) -> Result<u32, NetFault>
-        ensures { result ≡ looked (view self.now) (Take t p) }
+    // The weight of a transition at a place, on one side.
+    fn weight(&self, side: Side, t: usize, p: usize) -> Result<u32, NetFault>
+        ensures { result ≡ weighed (view self.now) side t p }
     {
         self.check_arc(t, p)?;
-        Ok(self.sheet[64 + 128 * t + p])
-    }
-
-    // What a transition puts into a place.
-    fn put(&self, t: usize, p: usize) -> Result<u32, NetFault>
-        ensures { result ≡ looked (view self.now) (Put t p) }
-    {
-        self.check_arc(t, p)?;
-        Ok(self.sheet[128 + 128 * t + p])
+        Ok(self.sheet[side.base(t) + p])
     }
 
     // Is the place in the support?
@@ -207,33 +218,30 @@ impl Net<'_> {
         ensures { result ≡ looked (view self.now) (Support p) }
     {
         self.check_place(p)?;
-        Ok(flag_at(&self.shape.support, p) as u32)
+        Ok(u32::from(flag_at(&self.shape.support, p)))
     }
 
     // One number of the net.
     pub fn look(&self, at: Look) -> Result<u32, NetFault>
         ensures { result ≡ looked (view self.now) at }
     {
-        self.check_sheet()?;
+        self.check_size()?;
         match at {
             Look::Transitions => Ok(self.shape.transitions as u32),
-            Look::Question => Ok(self.shape.question.number()),
-            Look::Stands(p) => Ok(flag_at(&self.shape.standing, p) as u32),
+            Look::Question => Ok(self.shape.question.into()),
+            Look::Stands(p) => Ok(u32::from(flag_at(&self.shape.standing, p))),
             Look::Support(p) => self.supports(p),
             Look::Mark(p) => self.mark(p),
-            Look::Take(t, p) => self.take(t, p),
-            Look::Put(t, p) => self.put(t, p),
+            Look::Take(t, p) => self.weight(Side::Takes, t, p),
+            Look::Put(t, p) => self.weight(Side::Puts, t, p),
         }
     }
 
     pub(crate) fn place(&mut self, mark: u32, flag: u32) -> Result<(), NetFault>
         ensures { Answered result (view self.new) (view self.old) (place_added (view self.old) mark flag) }
     {
-        self.check_sheet()?;
-        let p = next_place(&self.shape.standing);
-        if p >= MOST_PLACES {
-            return Err(NetFault::TooManyPlaces);
-        }
+        self.check_size()?;
+        let p = next_place(&self.shape.standing).ok_or(NetFault::TooManyPlaces)?;
         if flag > 1 {
             return Err(NetFault::BadFlag);
         }
@@ -246,7 +254,7 @@ impl Net<'_> {
     pub(crate) fn transition(&mut self) -> Result<(), NetFault>
         ensures { Answered result (view self.new) (view self.old) (transition_added (view self.old)) }
     {
-        self.check_sheet()?;
+        self.check_size()?;
         if self.shape.transitions >= MOST_TRANSITIONS {
             return Err(NetFault::TooManyTransitions);
         }
@@ -255,7 +263,7 @@ impl Net<'_> {
     }
 
     // Writes the weight of an arc that is not there yet.
-    fn add_arc(&mut self, at: usize, weight: u32) -> Result<(), NetFault>
+    fn write_arc(&mut self, at: usize, weight: u32) -> Result<(), NetFault>
         requires { at < length self.old.sheet.now }
         ensures { Answered result (view self.new) (view self.old) (judged (weight_checks (view self.old) at weight) (with_number (view self.old) at weight)) }
     {
@@ -269,39 +277,32 @@ impl Net<'_> {
         Ok(())
     }
 
-    pub(crate) fn arc_in(&mut self, t: usize, p: usize, weight: u32) -> Result<(), NetFault>
-        ensures { Answered result (view self.new) (view self.old) (arc_in_added (view self.old) t p weight) }
+    // Adds an arc on one side of a transition.
+    pub(crate) fn arc(
+        &mut self,
+        side: Side,
+        t: usize,
+        p: usize,
+        weight: u32,
+    ) -> Result<(), NetFault>
+        ensures { Answered result (view self.new) (view self.old) (arc_added (view self.old) side t p weight) }
     {
         self.check_arc(t, p)?;
-        self.add_arc(64 + 128 * t + p, weight)
-    }
-
-    pub(crate) fn arc_out(&mut self, t: usize, p: usize, weight: u32) -> Result<(), NetFault>
-        ensures { Answered result (view self.new) (view self.old) (arc_out_added (view self.old) t p weight) }
-    {
-        self.check_arc(t, p)?;
-        self.add_arc(128 + 128 * t + p, weight)
+        self.write_arc(side.base(t) + p, weight)
     }
 
     pub(crate) fn ask(&mut self, question: u32) -> Result<(), NetFault>
         ensures { Answered result (view self.new) (view self.old) (question_told (view self.old) question) }
     {
-        self.check_sheet()?;
-        if question > 3 {
-            return Err(NetFault::BadQuestion);
-        }
-        self.shape.question = match question {
-            0 | 1 => Question::Reach,
-            2 => Question::Standstill,
-            _ => Question::Both,
-        };
+        self.check_size()?;
+        self.shape.question = Question::try_from(question)?;
         Ok(())
     }
 
     pub(crate) fn clear(&mut self) -> Result<(), NetFault>
         ensures { Answered result (view self.new) (view self.old) (cleared (view self.old)) }
     {
-        self.check_sheet()?;
+        self.check_size()?;
         wipe(self.sheet);
         self.shape = EMPTY;
         Ok(())
@@ -333,7 +334,7 @@ impl<'a> Draft<'a> {
         net
     }
 
-    // Adds a place with its start mark; the flag 1 puts it into the support.
+    // Adds a place with its start mark; the flag 1 puts it into the support. The flag is a number, since others than 0 and 1 are refused.
     pub fn place(&mut self, mark: u32, flag: u32) -> Result<(), NetFault>
         ensures { Answered result (drafted self.new) (drafted self.old) (place_added (drafted self.old) mark flag) }
     {
@@ -347,18 +348,18 @@ impl<'a> Draft<'a> {
         self.net.transition()
     }
 
-    // Adds an arc from a place to a transition.
+    // Adds an arc from a place to a transition. This call and the next are two, as the two kinds of arcs are; what they do is one function.
     pub fn arc_in(&mut self, t: usize, p: usize, weight: u32) -> Result<(), NetFault>
         ensures { Answered result (drafted self.new) (drafted self.old) (arc_in_added (drafted self.old) t p weight) }
     {
-        self.net.arc_in(t, p, weight)
+        self.net.arc(Side::Takes, t, p, weight)
     }
 
     // Adds an arc from a transition to a place.
     pub fn arc_out(&mut self, t: usize, p: usize, weight: u32) -> Result<(), NetFault>
         ensures { Answered result (drafted self.new) (drafted self.old) (arc_out_added (drafted self.old) t p weight) }
     {
-        self.net.arc_out(t, p, weight)
+        self.net.arc(Side::Puts, t, p, weight)
     }
 
     // Tells the question by its number.

@@ -2,14 +2,15 @@
 ghost use Rattle.std.specs.Prelude.{◌≤◌};
 
 // What is asked of a net: which support numbers are reachable, with which a dead marking is reachable, or both.
-#[derive(Clone, Copy)]
+#[derive(Clone, Copy, Debug, PartialEq, Eq)]
 pub enum Question {
     Reach,
     Standstill,
     Both,
 }
 
-// What is known of a net beside its sheet.
+// What is known of a net beside its sheet. Standing and support are two lists, since each is a list of its own in the definitions,
+// and a place that goes may have been in the support.
 #[derive(Clone, Copy)]
 pub struct Shape {
     pub transitions: usize,
@@ -26,8 +27,15 @@ pub struct Net<'a> {
     pub shape: Shape,
 }
 
+// The two sides of a transition: what it takes from its places, and what it puts into them.
+#[derive(Clone, Copy, Debug, PartialEq, Eq)]
+pub enum Side {
+    Takes,
+    Puts,
+}
+
 // Why the net refuses a call.
-#[derive(Clone, Copy)]
+#[derive(Clone, Copy, Debug, PartialEq, Eq)]
 pub enum NetFault {
     WrongSize,
     TooManyPlaces,
@@ -41,7 +49,7 @@ pub enum NetFault {
 }
 
 // The layer that raised a refusal.
-#[derive(Clone, Copy)]
+#[derive(Clone, Copy, Debug, PartialEq, Eq)]
 pub enum Layer {
     Net,
     Reader,
@@ -49,27 +57,38 @@ pub enum Layer {
     Session,
 }
 
-// What a refusal tells: its number, its layer, the byte where the refused command or step starts, and the count of those
+// Where a refusal arose: the layer that raised it, the byte where the refused command or step starts, and the count of those
 // before it in the call.
-#[derive(Clone, Copy)]
-pub struct Told {
-    pub number: u8,
+#[derive(Clone, Copy, Debug, PartialEq, Eq)]
+pub struct Origin {
     pub layer: Layer,
     pub byte: usize,
     pub count: usize,
 }
 
-// A lower layer's fault with its layer and its place.
-#[derive(Drop)]
-pub struct Placed<F> {
-    pub fault: F,
-    pub layer: Layer,
+// A place in the bytes of a call: the byte where a command or a step starts, and the count of those before it.
+#[derive(Clone, Copy, Debug, PartialEq, Eq)]
+pub struct Position {
     pub byte: usize,
     pub count: usize,
+}
+
+// What a refusal tells: its number, as it is printed and as a customer's book chooses it, and where it arose.
+#[derive(Clone, Copy, Debug, PartialEq, Eq)]
+pub struct Told {
+    pub number: u8,
+    pub origin: Origin,
+}
+
+// A lower layer's fault, and where it arose.
+#[derive(Debug, Drop)]
+pub struct Placed<F> {
+    pub fault: F,
+    pub origin: Origin,
 }
 
 // One number of a net that a look may ask for: by place, or by transition and place.
-#[derive(Clone, Copy)]
+#[derive(Clone, Copy, Debug, PartialEq, Eq)]
 pub enum Look {
     Transitions,
     Question,

@@ -3,7 +3,7 @@
 
 #[cfg(test)]
 mod tests {
-    use net::{Draft, Layer, Look, Net, NetFault, measure};
+    use net::{Draft, Layer, Look, Net, NetFault, Origin, measure};
     use std::test::Fail;
     use stream::{Cause, ReadFault, read};
 
@@ -12,52 +12,43 @@ mod tests {
         1, 0x13, 0, 1, 0, 1, 0x12, 1, 1, 0, 1, 0x13, 1, 2, 0, 1, 0x1f, 1,
     ];
 
-    // The number of a refusal of the net, 0 where there is none.
-    fn number<T: Drop>(r: Result<T, NetFault>) -> u8 {
-        match r {
-            Ok(_) => 0,
-            Err(fault) => fault.told().number,
-        }
+    // The number of a refusal of the net, where there is one.
+    fn number<T: Drop>(r: Result<T, NetFault>) -> Option<u8> {
+        r.err().map(|fault| fault.told().number)
     }
 
-    // The value of a look, or 1,000 and the number of its refusal.
-    fn seen(net: &Net<'_>, at: Look) -> u32 {
-        match net.look(at) {
-            Ok(value) => value,
-            Err(fault) => 1000 + fault.told().number as u32,
-        }
+    // The value of a look, or the number of its refusal.
+    fn seen(net: &Net<'_>, at: Look) -> Result<u32, u8> {
+        net.look(at).map_err(|fault| fault.told().number)
     }
 
     // Number, byte and count of a refused reading.
-    fn refused(r: Result<usize, ReadFault>) -> (u8, usize, usize) {
-        match r {
-            Ok(_) => (0, 0, 0),
-            Err(fault) => {
-                let told = fault.told();
-                (told.number, told.byte, told.count)
-            }
-        }
+    fn refused(r: Result<usize, ReadFault>) -> Option<(u8, usize, usize)> {
+        r.err().map(|fault| {
+            let told = fault.told();
+            (told.number, told.origin.byte, told.origin.count)
+        })
     }
 
     #[test]
     fn wrong_size(rt: HostRuntime) -> Result<(), Fail> {
         let mut sheet = vec![in rt.alloc(); 7u32; 12_351]?;
-        assert_eq!(rt; number(measure(&sheet)), 1);
+        assert_eq!(rt; number(measure(&sheet)), Some(1));
         let mut draft = Draft::start(&mut sheet);
-        assert_eq!(rt; number(draft.place(1, 0)), 1);
-        assert_eq!(rt; number(draft.place(1, 9)), 1);
-        assert_eq!(rt; number(draft.transition()), 1);
-        assert_eq!(rt; number(draft.arc_in(300, 300, 0)), 1);
-        assert_eq!(rt; number(draft.arc_out(0, 0, 1)), 1);
-        assert_eq!(rt; number(draft.question(4)), 1);
-        assert_eq!(rt; number(draft.clear()), 1);
-        assert_eq!(rt; refused(read(&mut draft, &RELAY)), (1, 0, 0));
-        assert_eq!(rt; refused(read(&mut draft, &[])), (1, 0, 0));
+        assert_eq!(rt; number(draft.place(1, 0)), Some(1));
+        assert_eq!(rt; number(draft.place(1, 9)), Some(1));
+        assert_eq!(rt; number(draft.transition()), Some(1));
+        assert_eq!(rt; number(draft.arc_in(300, 300, 0)), Some(1));
+        assert_eq!(rt; number(draft.arc_out(0, 0, 1)), Some(1));
+        assert_eq!(rt; number(draft.question(4)), Some(1));
+        assert_eq!(rt; number(draft.clear()), Some(1));
+        assert_eq!(rt; refused(read(&mut draft, &RELAY)), Some((1, 0, 0)));
+        assert_eq!(rt; refused(read(&mut draft, &[])), Some((1, 0, 0)));
         let net = draft.finish();
-        assert_eq!(rt; seen(&net, Look::Transitions), 1001);
-        assert_eq!(rt; seen(&net, Look::Question), 1001);
-        assert_eq!(rt; seen(&net, Look::Stands(0)), 1001);
-        assert_eq!(rt; seen(&net, Look::Put(0, 0)), 1001);
+        assert_eq!(rt; seen(&net, Look::Transitions), Err(1));
+        assert_eq!(rt; seen(&net, Look::Question), Err(1));
+        assert_eq!(rt; seen(&net, Look::Stands(0)), Err(1));
+        assert_eq!(rt; seen(&net, Look::Put(0, 0)), Err(1));
         assert!(rt; net.sheet.len() == 12_351);
         assert_eq!(rt; net.sheet[0], 7);
         assert_eq!(rt; net.sheet[12_350], 7);
@@ -67,24 +58,24 @@ mod tests {
     #[test]
     fn refusals_in_order(rt: HostRuntime) -> Result<(), Fail> {
         let mut sheet = vec![in rt.alloc(); 7u32; 12_352]?;
-        assert_eq!(rt; number(measure(&sheet)), 0);
+        assert_eq!(rt; number(measure(&sheet)), None);
         let mut draft = Draft::start(&mut sheet);
-        assert_eq!(rt; number(draft.place(0, 2)), 6);
-        assert_eq!(rt; number(draft.place(4_294_967_295, 1)), 0);
-        assert_eq!(rt; number(draft.arc_in(0, 300, 0)), 8);
-        assert_eq!(rt; number(draft.transition()), 0);
-        assert_eq!(rt; number(draft.arc_in(300, 0, 1)), 8);
-        assert_eq!(rt; number(draft.arc_in(0, 1, 0)), 9);
-        assert_eq!(rt; number(draft.arc_in(0, 300, 0)), 9);
-        assert_eq!(rt; number(draft.arc_in(0, 0, 0)), 10);
-        assert_eq!(rt; number(draft.arc_in(0, 0, 65_536)), 10);
-        assert_eq!(rt; number(draft.arc_in(0, 0, 65_535)), 0);
-        assert_eq!(rt; number(draft.arc_in(0, 0, 65_536)), 10);
-        assert_eq!(rt; number(draft.arc_in(0, 0, 1)), 11);
-        assert_eq!(rt; number(draft.arc_out(0, 0, 3)), 0);
-        assert_eq!(rt; number(draft.arc_out(0, 0, 3)), 11);
-        assert_eq!(rt; number(draft.question(4)), 12);
-        assert_eq!(rt; number(draft.question(3)), 0);
+        assert_eq!(rt; number(draft.place(0, 2)), Some(6));
+        assert_eq!(rt; number(draft.place(4_294_967_295, 1)), None);
+        assert_eq!(rt; number(draft.arc_in(0, 300, 0)), Some(8));
+        assert_eq!(rt; number(draft.transition()), None);
+        assert_eq!(rt; number(draft.arc_in(300, 0, 1)), Some(8));
+        assert_eq!(rt; number(draft.arc_in(0, 1, 0)), Some(9));
+        assert_eq!(rt; number(draft.arc_in(0, 300, 0)), Some(9));
+        assert_eq!(rt; number(draft.arc_in(0, 0, 0)), Some(10));
+        assert_eq!(rt; number(draft.arc_in(0, 0, 65_536)), Some(10));
+        assert_eq!(rt; number(draft.arc_in(0, 0, 65_535)), None);
+        assert_eq!(rt; number(draft.arc_in(0, 0, 65_536)), Some(10));
+        assert_eq!(rt; number(draft.arc_in(0, 0, 1)), Some(11));
+        assert_eq!(rt; number(draft.arc_out(0, 0, 3)), None);
+        assert_eq!(rt; number(draft.arc_out(0, 0, 3)), Some(11));
+        assert_eq!(rt; number(draft.question(4)), Some(12));
+        assert_eq!(rt; number(draft.question(3)), None);
         Ok(())
     }
 
@@ -93,20 +84,20 @@ mod tests {
         let mut sheet = vec![in rt.alloc(); 0u32; 12_352]?;
         let mut draft = Draft::start(&mut sheet);
         for _ in 0..64 {
-            assert_eq!(rt; number(draft.place(5, 0)), 0);
+            assert_eq!(rt; number(draft.place(5, 0)), None);
         }
-        assert_eq!(rt; number(draft.place(5, 2)), 5);
+        assert_eq!(rt; number(draft.place(5, 2)), Some(5));
         for _ in 0..96 {
-            assert_eq!(rt; number(draft.transition()), 0);
+            assert_eq!(rt; number(draft.transition()), None);
         }
-        assert_eq!(rt; number(draft.transition()), 7);
-        assert_eq!(rt; number(draft.arc_out(95, 63, 9)), 0);
+        assert_eq!(rt; number(draft.transition()), Some(7));
+        assert_eq!(rt; number(draft.arc_out(95, 63, 9)), None);
         let net = draft.finish();
-        assert_eq!(rt; seen(&net, Look::Transitions), 96);
-        assert_eq!(rt; seen(&net, Look::Put(95, 63)), 9);
-        assert_eq!(rt; seen(&net, Look::Take(96, 63)), 1008);
-        assert_eq!(rt; seen(&net, Look::Take(95, 64)), 1009);
-        assert_eq!(rt; seen(&net, Look::Mark(63)), 5);
+        assert_eq!(rt; seen(&net, Look::Transitions), Ok(96));
+        assert_eq!(rt; seen(&net, Look::Put(95, 63)), Ok(9));
+        assert_eq!(rt; seen(&net, Look::Take(96, 63)), Err(8));
+        assert_eq!(rt; seen(&net, Look::Take(95, 64)), Err(9));
+        assert_eq!(rt; seen(&net, Look::Mark(63)), Ok(5));
         assert!(rt; net.sheet.len() == 12_352);
         assert_eq!(rt; net.sheet[12_351], 9);
         Ok(())
@@ -116,21 +107,21 @@ mod tests {
     fn looks(rt: HostRuntime) -> Result<(), Fail> {
         let mut sheet = vec![in rt.alloc(); 7u32; 12_352]?;
         let mut draft = Draft::start(&mut sheet);
-        assert_eq!(rt; read(&mut draft, &RELAY).is_ok(), true);
+        assert!(rt; read(&mut draft, &RELAY).is_ok());
         let net = draft.finish();
-        assert_eq!(rt; seen(&net, Look::Transitions), 2);
-        assert_eq!(rt; seen(&net, Look::Question), 1);
-        assert_eq!(rt; seen(&net, Look::Stands(2)), 1);
-        assert_eq!(rt; seen(&net, Look::Stands(3)), 0);
-        assert_eq!(rt; seen(&net, Look::Stands(4_000_000_000)), 0);
-        assert_eq!(rt; seen(&net, Look::Support(1)), 0);
-        assert_eq!(rt; seen(&net, Look::Support(2)), 1);
-        assert_eq!(rt; seen(&net, Look::Support(3)), 1009);
-        assert_eq!(rt; seen(&net, Look::Mark(0)), 1);
-        assert_eq!(rt; seen(&net, Look::Take(1, 1)), 1);
-        assert_eq!(rt; seen(&net, Look::Take(1, 2)), 0);
-        assert_eq!(rt; seen(&net, Look::Put(1, 2)), 1);
-        assert_eq!(rt; seen(&net, Look::Put(2, 9)), 1008);
+        assert_eq!(rt; seen(&net, Look::Transitions), Ok(2));
+        assert_eq!(rt; seen(&net, Look::Question), Ok(1));
+        assert_eq!(rt; seen(&net, Look::Stands(2)), Ok(1));
+        assert_eq!(rt; seen(&net, Look::Stands(3)), Ok(0));
+        assert_eq!(rt; seen(&net, Look::Stands(4_000_000_000)), Ok(0));
+        assert_eq!(rt; seen(&net, Look::Support(1)), Ok(0));
+        assert_eq!(rt; seen(&net, Look::Support(2)), Ok(1));
+        assert_eq!(rt; seen(&net, Look::Support(3)), Err(9));
+        assert_eq!(rt; seen(&net, Look::Mark(0)), Ok(1));
+        assert_eq!(rt; seen(&net, Look::Take(1, 1)), Ok(1));
+        assert_eq!(rt; seen(&net, Look::Take(1, 2)), Ok(0));
+        assert_eq!(rt; seen(&net, Look::Put(1, 2)), Ok(1));
+        assert_eq!(rt; seen(&net, Look::Put(2, 9)), Err(8));
         Ok(())
     }
 
@@ -138,17 +129,17 @@ mod tests {
     fn readings(rt: HostRuntime) -> Result<(), Fail> {
         let mut sheet = vec![in rt.alloc(); 7u32; 12_352]?;
         let mut draft = Draft::start(&mut sheet);
-        assert_eq!(rt; number(draft.place(1, 1)), 0);
-        assert_eq!(rt; refused(read(&mut draft, &RELAY[0..41])), (2, 40, 9));
-        assert_eq!(rt; refused(read(&mut draft, &RELAY[0..40])), (2, 40, 9));
+        assert_eq!(rt; number(draft.place(1, 1)), None);
+        assert_eq!(rt; refused(read(&mut draft, &RELAY[0..41])), Some((2, 40, 9)));
+        assert_eq!(rt; refused(read(&mut draft, &RELAY[0..40])), Some((2, 40, 9)));
         assert_eq!(rt;
             refused(read(&mut draft, &[0x11, 0x11, 0x12, 1, 0, 0, 1])),
-            (9, 2, 2)
+            Some((9, 2, 2))
         );
-        assert_eq!(rt; refused(read(&mut draft, &[0x11, 0x77])), (3, 1, 1));
+        assert_eq!(rt; refused(read(&mut draft, &[0x11, 0x77])), Some((3, 1, 1)));
         let net = draft.finish();
-        assert_eq!(rt; seen(&net, Look::Transitions), 0);
-        assert_eq!(rt; seen(&net, Look::Stands(0)), 0);
+        assert_eq!(rt; seen(&net, Look::Transitions), Ok(0));
+        assert_eq!(rt; seen(&net, Look::Stands(0)), Ok(0));
         assert!(rt; net.sheet.len() == 12_352);
         assert_eq!(rt; net.sheet[0], 0);
         Ok(())
@@ -158,27 +149,28 @@ mod tests {
     fn layers(rt: HostRuntime) -> Result<(), Fail> {
         let mut sheet = vec![in rt.alloc(); 7u32; 12_352]?;
         let mut draft = Draft::start(&mut sheet);
-        match read(&mut draft, &[0x10, 0, 0, 0, 0, 2]) {
-            Err(
-                ReadFault {
-                    cause: Cause::Net(NetFault::BadFlag),
+        assert_eq!(rt;
+            read(&mut draft, &[0x10, 0, 0, 0, 0, 2]),
+            Err(ReadFault {
+                cause: Cause::Net(NetFault::BadFlag),
+                origin: Origin {
                     layer: Layer::Net,
                     byte: 0,
                     count: 0,
                 },
-            ) => {}
-            _ => return Err(Fail::new("the net refuses the flag")),
-        }
-        match read(&mut draft, &[0x11]) {
-            Err(
-                ReadFault {
-                    cause: Cause::Short,
+            },)
+        );
+        assert_eq!(rt;
+            read(&mut draft, &[0x11]),
+            Err(ReadFault {
+                cause: Cause::Short,
+                origin: Origin {
                     layer: Layer::Reader,
                     byte: 1,
                     count: 1,
                 },
-            ) => Ok(()),
-            _ => Err(Fail::new("the reader refuses an end that is missing")),
-        }
+            },)
+        );
+        Ok(())
     }
 }

@@ -1,12 +1,18 @@
 -- The products of feeders and consumers, feeder by feeder, of lists alone.
-use Rattle.std.proofs.Common.{◌≡◌, ℕ, ◌+◌, ◌*◌, ◌<◌, ◌≤◌, Bool, true, false, List, [], ◌∷◌, ◌++◌, map, length, sym, ap, ◌∙◌, subst, append_assoc, append-nil, mul-le-mul_right, suc-mul, zero-mul, arith, length-append}
-use Rattle.std.proofs.lemmas.List.{length-map}
+use Rattle.std.proofs.Common.{◌≡◌, ℕ, ◌+◌, ◌*◌, ◌<◌, ◌≤◌, Bool, true, List, [], ◌∷◌, ◌++◌, map, length, get_or, sym, ap, ◌∙◌, subst, append_assoc, append-nil, mul-le-mul_right, suc-mul, zero-mul, arith, length-append}
+use Rattle.std.proofs.lemmas.List.{length-map, map-append}
+use Rattle.std.proofs.lemmas.Simd.{map-map}
 use Rattle.net.specs.Sheets.{Row, row_at}
 use Rattle.net.specs.States.{State}
 use Rattle.theory.specs.Tests.{those, feeders, consumers}
 use Rattle.theory.specs.Rewrites.{kept_rows, crossed, merging}
-use Rattle.checks.proofs.Those.{those_kept, those_left, count_below}
-use Rattle.products.specs.Products.{Filled, Listed, apart?}
+use Rattle.std.proofs.lemmas.Nat.{mul-le}
+use Rattle.rewrites.proofs.Those.{those_at}
+use Rattle.products.specs.Products.{numbers, apart?}
+
+-- One of the numbers of which a test holds.
+pub turned : (keep : ℕ → Bool) (n k t : ℕ) → (k < length (those keep n)) × (t ≡ get_or (those keep n) k t) → (t < n) × (keep t ≡ true)
+turned keep n k t x = let y = those_at keep n k t x.0 in subst (λ u. (u < n) × (keep u ≡ true)) (sym x.1) (y.1, y.2)
 
 -- One more feeder.
 crossed_push : (f : ℕ → ℕ → Row) (hs : List ℕ) (h : ℕ) (gs : List ℕ) → crossed f (hs ++ h ∷ []) gs ≡ crossed f hs gs ++ map (f h) gs
@@ -19,23 +25,20 @@ length_crossed f [] gs = sym (zero-mul (length gs))
 length_crossed f (x ∷ xs) gs =
     omega (arith, length-append (map (f x) gs) (crossed f xs gs), length-map gs (f x), length_crossed f xs gs, suc-mul (length xs) (length gs))
 
--- The buffer holds the products of the feeders below `h`; then it is asked of `h` whether it is one.
-module _ (feeds : ℕ → Bool) (f : ℕ → ℕ → Row) (gs xs : List ℕ) (h at : ℕ) (p : Filled xs (crossed f (those feeds h) gs) at) where
-  pub crossed_room : (n : ℕ) → h < n → feeds h ≡ true → length (those feeds n) * length gs ≤ 32 → at + length gs ≤ 32
-  crossed_room n l e most =
-      omega (arith, p.count, held, mul-le-mul_right (length gs) (count_below feeds h n l e), suc-mul (length (those feeds h)) (length gs))
-    where
-      held : length (crossed f (those feeds h) gs) ≡ length (those feeds h) * length gs
-      held = length_crossed f (those feeds h) gs
+-- The numbers of their rows: room for those of one more feeder, and with them.
+module _ (f : ℕ → ℕ → Row) (gs hs : List ℕ) (h : ℕ) where
+  pub crossed_room : (n : ℕ) → length hs < n → n * length gs ≤ 32 → length (map numbers (crossed f hs gs)) + length gs ≤ 32
+  crossed_room n l most =
+      omega (arith, length-map (crossed f hs gs) numbers, length_crossed f hs gs, mul-le-mul_right (length gs) l, suc-mul (length hs) (length gs))
 
-  pub crossed_left : feeds h ≡ false → Filled xs (crossed f (those feeds (h + 1)) gs) at
-  crossed_left e = subst (λ l. Filled xs (crossed f l gs) at) (sym (those_left feeds h e)) p
+  pub crossed_more : map numbers (crossed f hs gs) ++ map (λ g. numbers (f h g)) gs ≡ map numbers (crossed f (hs ++ h ∷ []) gs)
+  crossed_more =
+      ap (λ l. map numbers (crossed f hs gs) ++ l) (sym (map-map numbers (f h) gs)) ∙ sym (map-append numbers (crossed f hs gs) (map (f h) gs))
+      ∙ ap (map numbers) (sym (crossed_push f hs h gs))
 
-  pub crossed_kept : (keep : ℕ → Bool) (n : ℕ) → gs ≡ those keep n → (ys : List ℕ) (k : ℕ) → feeds h ≡ true → Listed keep (f h) xs ys at n k
-      → Filled ys (crossed f (those feeds (h + 1)) gs) k
-  crossed_kept keep n same ys k e w =
-      subst (λ l. Filled ys l k) (sym (ap (λ l. crossed f l gs) (those_kept feeds h e) ∙ crossed_push f (those feeds h) h gs))
-      (subst (λ l. Filled ys (crossed f (those feeds h) gs ++ map (f h) l) k) (sym same) (w.rows (crossed f (those feeds h) gs) p))
+-- As many pairs as this at most.
+pub few_pairs : (a b : ℕ) → a ≤ 96 → b ≤ 96 → a * b ≤ 9216
+few_pairs a b l m = mul-le a b 96 96 l m
 
 -- The number of transitions after an agglomeration.
 pub merged_count : (product : ℕ → ℕ → Row) (p : ℕ) (s : State) (a b : ℕ) → a ≡ length (those (apart? s p) s.transitions)

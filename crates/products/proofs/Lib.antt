@@ -1,4 +1,3 @@
-pub mod Filling
 pub mod Crossing
 pub mod Appending
 pub mod Replacing

@@ -2,7 +2,7 @@
 ghost use Rattle.std.specs.Prelude.{◌≡◌, ℕ, Bool};
 ghost use Rattle.products.specs.Products.{apart?};
 
-use checks::{TransitionTest, put_of, take_of};
+use checks::{Test, Transition, put_of, take_of};
 use net::Net;
 
 // Does the transition leave p alone?
@@ -11,7 +11,9 @@ pub struct Apart {
     pub p: u8,
 }
 
-impl TransitionTest for Apart {
+impl Test for Apart {
+    type Of = Transition;
+
     ghost holds = { λ x s t. apart? s x.p t };
 
     fn test(&self, net: &Net<'_>, t: u8) -> bool {

@@ -1,176 +1,137 @@
 // The new rows of an agglomeration: the products of the feeders and the consumers of a place.
 #![tactic(auto)]
 
-ghost use Rattle.std.specs.Prelude.{◌≡◌, ℕ, ◌+◌, ◌*◌, ◌/◌, ◌<◌, ◌≤◌, true, List, length, slice_index};
+ghost use Rattle.std.specs.Prelude.{◌≡◌, ℕ, ◌+◌, ◌*◌, ◌<◌, ◌≤◌, true, false, List, ◌++◌, map, length, slice_index, slice_set};
+ghost use Rattle.net.specs.Looks.{sheet_checks};
 ghost use Rattle.net.specs.Refusals.{judged};
 ghost use Rattle.net.specs.Sheets.{Row, number};
-ghost use Rattle.net.specs.States.{view, sized, take, put, Answered};
-ghost use Rattle.theory.specs.Nexts.{off};
+ghost use Rattle.net.specs.States.{view, Answered};
 ghost use Rattle.theory.specs.Rewrites.{kept_rows, crossed, merging};
-ghost use Rattle.theory.specs.Tests.{consumer?, feeders, consumers, products_fit?};
-ghost use Rattle.products.specs.Products.{product_row, pair_row, Fits, AllFit, Filled, Listed, Appended, apart?, replacing, merge_table, merged};
+ghost use Rattle.theory.specs.Tests.{those, consumer?, feeders, consumers};
+ghost use Rattle.products.specs.Products.{product_row, pair_row, Fits, numbers, Appended, apart?, replacing, merge_table, Allowed, merged};
+ghost use Rattle.arrayvec.specs.ArrayVec.{array_vec_len};
 
 mod apart;
 mod limits;
 mod pairs;
+mod weights;
 
 pub use apart::Apart;
-use checks::{
-    Consumes, Feeds, TransitionTest, count_transitions, every_transition, put_of, take_of,
-};
-use limits::FeederFits;
-use net::{Net, NetFault, measure};
+use arrayvec::ArrayVec;
+use checks::{Consumes, Feeds, count, put_of, take_of, transitions};
+pub use limits::products_fit;
+use net::{MOST_PLACES, MOST_TRANSITIONS, Net, NetFault, Side};
 pub use pairs::{Kind, Pair};
 use rewrites::keep_where;
+use std::array;
+use weights::weight;
 
-// The rows of the buffer, and the most transitions of a net.
-const MOST_PRODUCTS: usize = 32;
+// The most products of an agglomeration.
+pub const MOST_PRODUCTS: usize = 32;
 
-const MOST_TRANSITIONS: usize = 96;
+// The numbers of their rows.
+type Rows = ArrayVec<[u32; 128], MOST_PRODUCTS>;
 
-// How often the feeder's put into p serves the consumer's take.
-fn factor(net: &Net<'_>, pair: &Pair) -> u32
-    ensures { result ≡ put (view net.now) pair.now.h pair.now.p / take (view net.now) pair.now.f pair.now.p }
+// A number of the row of a product that is within the limits: its takes come first, then its puts.
+fn number_at(net: &Net<'_>, pair: &Pair, j: usize) -> u32
+    requires { (j < 128) × Fits (pair_row pair.now (view net.now)) }
+    ensures { result ≡ number (pair_row pair.now (view net.now)) j }
 {
-    let weight = take_of(net, pair.f, pair.p);
-    if weight == 0 {
-        0
+    if j < MOST_PLACES {
+        weight(net, pair, Side::Takes, j as u8) as u32
     } else {
-        put_of(net, pair.h, pair.p) / weight
+        weight(net, pair, Side::Puts, (j - MOST_PLACES) as u8) as u32
     }
 }
 
-// What the consumer takes from q outside p, and what the feeder puts there.
-fn take_outside(net: &Net<'_>, pair: &Pair, q: u8) -> u32
-    ensures { result ≡ off pair.now.p (take (view net.now) pair.now.f) q }
+// The row of a product that is within the limits.
+fn row(net: &Net<'_>, pair: &Pair) -> [u32; 128]
+    requires { Fits (pair_row pair.now (view net.now)) }
+    ensures { result ≡ numbers (pair_row pair.now (view net.now)) }
 {
-    if q == pair.p {
-        0
-    } else {
-        take_of(net, pair.f, q)
+    array::from_fn(|j| number_at(net, pair, j))
+}
+
+// The product of feeder h and consumer f of p.
+fn product(net: &Net<'_>, kind: Kind, p: u8, h: u8, f: u8) -> [u32; 128]
+    requires { Fits (product_row kind (view net.now) p h f) }
+    ensures { result ≡ numbers (product_row kind (view net.now) p h f) }
+{
+    row(net, &Pair { kind, p, h, f })
+}
+
+// Appends the products of feeder h and each consumer of p.
+fn push_products(net: &Net<'_>, kind: Kind, p: u8, h: u8, rows: &mut Rows)
+    requires { (array_vec_len rows.old + length (consumers (view net.now) p) ≤ 32) × ((f : ℕ) → f < (view net.now).transitions → consumer? (view net.now) p f ≡ true → Fits (product_row kind (view net.now) p h f)) }
+    ensures { rows.new.items ≡ rows.old.items ++ map (λ f. numbers (product_row kind (view net.now) p h f)) (consumers (view net.now) p) }
+{
+    for f in transitions(net).filter(|f| take_of(net, *f, p) > 0) {
+        rows.push(product(net, kind, p, h, f));
     }
 }
 
-fn put_outside(net: &Net<'_>, pair: &Pair, q: u8) -> u32
-    ensures { result ≡ off pair.now.p (put (view net.now) pair.now.h) q }
+// The products of all feeders and consumers of p, where the questions before a merge have passed.
+fn products(net: &Net<'_>, kind: Kind, p: u8) -> Rows
+    requires { Allowed kind p (view net.now) }
+    ensures room { length (kept_rows (apart? (view net.now) p) (view net.now)) + array_vec_len result ≤ 96 }
+    ensures rows { result.items ≡ map numbers (crossed (product_row kind (view net.now) p) (feeders (view net.now) p) (consumers (view net.now) p)) }
 {
-    if pair.p == q {
-        0
-    } else {
-        put_of(net, pair.h, q)
+    let mut rows = ArrayVec::new();
+    for h in transitions(net).filter(|h| put_of(net, *h, p) > 0) {
+        push_products(net, kind, p, h, &mut rows);
     }
+    rows
 }
 
-// What the product of a pair takes from q.
-fn product_take(net: &Net<'_>, pair: &Pair, q: u8) -> u64
-    ensures { result ≡ (pair_row pair.now (view net.now)).takes q }
+// Writes a row of a sheet.
+fn write_row(sheet: &mut [u32], t: usize, row: &[u32; 128])
+    requires { 192 + 128 * t ≤ length sheet.old }
+    ensures row { (j : ℕ) → j < 128 → slice_index sheet.new (64 + 128 * t + j) ≡ slice_index row.now j }
+    ensures before { (i : ℕ) → i < 64 + 128 * t → slice_index sheet.new i ≡ slice_index sheet.old i }
+    ensures after { (i : ℕ) → 192 + 128 * t ≤ i → slice_index sheet.new i ≡ slice_index sheet.old i }
 {
-    let by_feeder = take_of(net, pair.h, q) as u64;
-    match pair.kind {
-        Kind::Post => by_feeder,
-        Kind::Pre => by_feeder + take_outside(net, pair, q) as u64,
-    }
+    sheet[64 + 128 * t..192 + 128 * t].copy_from_slice(row);
 }
 
-// What the product of a pair puts into q.
-fn product_put(net: &Net<'_>, pair: &Pair, q: u8) -> u64
-    ensures { result ≡ (pair_row pair.now (view net.now)).puts q }
+// Writes rows behind the first n rows of a sheet.
+fn append_rows(sheet: &mut [u32], n: usize, rows: &[[u32; 128]])
+    requires { 64 + 128 * (n + length rows.now) ≤ length sheet.old }
+    ensures { Appended sheet.old sheet.new rows.now n (length rows.now) }
 {
-    let by_consumer = put_of(net, pair.f, q) as u64;
-    match pair.kind {
-        Kind::Pre => by_consumer,
-        Kind::Post => put_outside(net, pair, q) as u64 + factor(net, pair) as u64 * by_consumer,
+    for (i, row) in rows.iter().enumerate() {
+        write_row(sheet, n + i, row);
     }
-}
-
-// Writes the product of a pair, which is within the limits, as one row of a buffer, and tells the next row.
-fn write_product(net: &Net<'_>, pair: &Pair, rows: &mut [u32; 4096], at: usize) -> usize
-    requires { (at < 32) × (Fits (pair_row pair.now (view net.now))) }
-    ensures next { result ≡ at + 1 }
-    ensures row { (j : ℕ) → j < 128 → slice_index rows.new (128 * at + j) ≡ number (pair_row pair.now (view net.now)) j }
-    ensures before { (i : ℕ) → i < 128 * at → slice_index rows.new i ≡ slice_index rows.old i }
-{
-    for q in 0..64u8 {
-        rows[128 * at + q as usize] = product_take(net, pair, q) as u32;
-        rows[128 * at + 64 + q as usize] = product_put(net, pair, q) as u32;
-    }
-    at + 1
-}
-
-// Writes the products of feeder h and each consumer of p into a buffer, from a row on, and tells the row behind them.
-fn write_feeder(
-    net: &Net<'_>,
-    kind: Kind,
-    p: u8,
-    h: u8,
-    rows: &mut [u32; 4096],
-    from: usize,
-) -> usize
-    requires { (from + length (consumers (view net.now) p) ≤ 32) × (((f : ℕ) → f < (view net.now).transitions → consumer? (view net.now) p f ≡ true → Fits (product_row kind (view net.now) p h f))) }
-    ensures { Listed (consumer? (view net.now) p) (product_row kind (view net.now) p h) rows.old rows.new from (view net.now).transitions result }
-{
-    let consumes = Consumes { p };
-    let mut at = from;
-    for f in 0..net.shape.transitions as u8 {
-        if consumes.test(net, f) {
-            at = write_product(net, &Pair { kind, p, h, f }, rows, at);
-        }
-    }
-    at
-}
-
-// Writes the products of all feeders and consumers of p into a buffer, and tells how many they are.
-fn write_products(net: &Net<'_>, kind: Kind, p: u8, rows: &mut [u32; 4096]) -> usize
-    requires { (length (feeders (view net.now) p) * length (consumers (view net.now) p) ≤ 32) × (AllFit (view net.now) p (product_row kind (view net.now) p)) }
-    ensures { Filled rows.new (crossed (product_row kind (view net.now) p) (feeders (view net.now) p) (consumers (view net.now) p)) result }
-{
-    let feeds = Feeds { p };
-    let mut at = 0;
-    for h in 0..net.shape.transitions as u8 {
-        if feeds.test(net, h) {
-            at = write_feeder(net, kind, p, h, rows, at);
-        }
-    }
-    at
-}
-
-// Copies the first rows of a buffer behind the first n rows of a sheet.
-fn append_rows(sheet: &mut [u32], n: usize, rows: &[u32; 4096], count: usize)
-    requires { (length sheet.old ≡ 12352) × ((count ≤ 32) × (n + count ≤ 96)) }
-    ensures { Appended sheet.old rows.now sheet.new n (128 * count) }
-{
-    for j in 0..128 * count {
-        sheet[64 + 128 * n + j] = rows[j];
-    }
-}
-
-// Are the weights of all new rows within the limit?
-pub fn products_fit(net: &Net<'_>, kind: Kind, p: u8) -> bool
-    ensures { result ≡ products_fit? (view net.now) p (product_row kind (view net.now) p) }
-{
-    every_transition(net, &FeederFits { kind, p })
 }
 
 // How many products there are: the feeders of p times its consumers.
+#[tactic(auto, using(crate::proofs::Crossing::few_pairs))]
 pub fn pair_count(net: &Net<'_>, p: u8) -> usize
     ensures count { result ≡ length (feeders (view net.now) p) * length (consumers (view net.now) p) }
     ensures few { result ≤ 9216 }
 {
-    count_transitions(net, &Feeds { p }) * count_transitions(net, &Consumes { p })
+    count(net, &Feeds { p }) * count(net, &Consumes { p })
+}
+
+// How many transitions leave p alone.
+fn rest_count(net: &Net<'_>, p: u8) -> usize
+    ensures count { result ≡ length (those (apart? (view net.now) p) (view net.now).transitions) }
+    ensures few { result ≤ 96 }
+{
+    count(net, &Apart { p })
 }
 
 // How many transitions there are after an agglomeration at p, whatever its products.
 pub fn row_count(net: &Net<'_>, p: u8) -> usize
     ensures { (product : ℕ → ℕ → Row) → result ≡ (merging product p (view net.now)).transitions }
 {
-    count_transitions(net, &Apart { p }) + pair_count(net, p)
+    rest_count(net, p) + pair_count(net, p)
 }
 
 // May the feeders and consumers of p be replaced by their products?
 fn check_merge(net: &Net<'_>, kind: Kind, p: u8) -> Result<(), NetFault>
     ensures { result ≡ judged (merge_table kind p (view net.now)) tt }
 {
-    measure(net.sheet)?;
+    net.check_size()?;
     if pair_count(net, p) > MOST_PRODUCTS || row_count(net, p) > MOST_TRANSITIONS {
         return Err(NetFault::TooManyTransitions);
     }
@@ -180,18 +141,29 @@ fn check_merge(net: &Net<'_>, kind: Kind, p: u8) -> Result<(), NetFault>
     Ok(())
 }
 
-// Drops the feeders and consumers of p, appends the rows of a buffer, and lets p go.
-fn replace_rows(net: &mut Net<'_>, p: u8, rows: &[u32; 4096], count: usize)
-    requires { (sized (view net.old) ≡ true) × ((count ≤ 32) × (length (kept_rows (apart? (view net.old) p) (view net.old)) + count ≤ 96)) }
-    ensures { (qs : List Row) → Filled rows.now qs count → view net.new ≡ replacing qs p (view net.old) }
+// The flags of the places, false at p.
+#[tactic(auto, using(std::proofs::lemmas::List::set_past))]
+fn flags_without(standing: &[bool; 64], p: u8) -> [bool; 64]
+    ensures { result ≡ slice_set standing.now p false }
 {
-    let _ = keep_where(net, &Apart { p });
-    let n = net.shape.transitions;
-    append_rows(net.sheet, n, rows, count);
-    net.shape.transitions = n + count;
+    let mut rest = *standing;
     if p < 64 {
-        net.shape.standing[p as usize] = false;
+        rest[usize::from(p)] = false;
     }
+    rest
+}
+
+// Drops the feeders and consumers of p, appends rows in their place, and lets p go.
+fn replace_rows(net: &mut Net<'_>, p: u8, rows: &[[u32; 128]]) -> Result<(), NetFault>
+    requires { length (kept_rows (apart? (view net.old) p) (view net.old)) + length rows.now ≤ 96 }
+    ensures { (qs : List Row) → rows.now ≡ map numbers qs → Answered result (view net.new) (view net.old) (judged (sheet_checks (view net.old)) (replacing qs p (view net.old))) }
+{
+    keep_where(net, &Apart { p })?;
+    let n = net.shape.transitions;
+    append_rows(net.sheet, n, rows);
+    net.shape.transitions = n + rows.len();
+    net.shape.standing = flags_without(&net.shape.standing, p);
+    Ok(())
 }
 
 // Replaces the feeders and consumers of p by their products, and lets p go.
@@ -199,8 +171,6 @@ pub fn merge(net: &mut Net<'_>, kind: Kind, p: u8) -> Result<(), NetFault>
     ensures { Answered result (view net.new) (view net.old) (merged kind p (view net.old)) }
 {
     check_merge(net, kind, p)?;
-    let mut rows = [0; 4096];
-    let count = write_products(net, kind, p, &mut rows);
-    replace_rows(net, p, &rows, count);
-    Ok(())
+    let rows = products(net, kind, p);
+    replace_rows(net, p, &rows)
 }

@@ -1,70 +1,52 @@
-// Tests of the limits: are the weights of new rows within them?
+// The limits: are the weights of the new rows within them?
 ghost use Rattle.std.specs.Prelude.{◌≡◌, ℕ, Bool, ◌&&◌, nat_le};
 ghost use Rattle.net.specs.Sheets.{most_weight};
-ghost use Rattle.theory.specs.Tests.{◌⇒◌, every_place, every_transition, feeder?, consumer?};
+ghost use Rattle.net.specs.States.{view};
+ghost use Rattle.theory.specs.Tests.{◌⇒◌, every_place, every_transition, feeder?, consumer?, products_fit?};
 ghost use Rattle.products.specs.Products.{product_row, pair_row};
 
 use crate::pairs::{Kind, Pair};
-use crate::{product_put, product_take};
-use checks::{PlaceTest, TransitionTest, every_place, every_transition, put_of, take_of};
-use net::Net;
+use crate::weights::weight;
+use checks::{places, put_of, take_of, transitions};
+use net::{MOST_WEIGHT, Net, Side};
 
-// The largest weight of an arc.
-const MOST_WEIGHT: u64 = 65_535;
-
-// Are the weights of the product at q within the limit?
-impl PlaceTest for Pair {
-    ghost holds = { λ x s q. nat_le ((pair_row x s).takes q) most_weight && nat_le ((pair_row x s).puts q) most_weight };
-
-    fn test(&self, net: &Net<'_>, q: u8) -> bool {
-        product_take(net, self, q) <= MOST_WEIGHT && product_put(net, self, q) <= MOST_WEIGHT
-    }
+// Are the weights of the product within the limit?
+#[tactic(auto, unfolding(theory::specs::Tests::every))]
+fn pair_fits(net: &Net<'_>, pair: &Pair) -> bool
+    ensures { result ≡ every_place (λ q. nat_le ((pair_row pair.now (view net.now)).takes q) most_weight && nat_le ((pair_row pair.now (view net.now)).puts q) most_weight) }
+{
+    places().all(|q| {
+        weight(net, pair, Side::Takes, q) <= u64::from(MOST_WEIGHT)
+            && weight(net, pair, Side::Puts, q) <= u64::from(MOST_WEIGHT)
+    })
 }
 
-// Is the product of feeder h and the transition within the limit, if that is a consumer of p?
-#[derive(Drop)]
-pub struct ConsumerFits {
-    pub kind: Kind,
-    pub p: u8,
-    pub h: u8,
+// Is the product of feeder h and f within the limit, if f is a consumer of p?
+fn consumer_fits(net: &Net<'_>, pair: &Pair) -> bool
+    ensures { result ≡ (consumer? (view net.now) pair.now.p pair.now.f ⇒ every_place (λ q. nat_le ((pair_row pair.now (view net.now)).takes q) most_weight && nat_le ((pair_row pair.now (view net.now)).puts q) most_weight)) }
+{
+    take_of(net, pair.f, pair.p) == 0 || pair_fits(net, pair)
 }
 
-impl TransitionTest for ConsumerFits {
-    ghost holds = { λ x s f. consumer? s x.p f ⇒ every_place (λ q. nat_le ((product_row x.kind s x.p x.h f).takes q) most_weight && nat_le ((product_row x.kind s x.p x.h f).puts q) most_weight) };
-
-    fn test(&self, net: &Net<'_>, f: u8) -> bool {
-        take_of(net, f, self.p) == 0
-            || every_place(
-                net,
-                &Pair {
-                    kind: self.kind,
-                    p: self.p,
-                    h: self.h,
-                    f,
-                },
-            )
-    }
+// Are the products of h within the limit, if that is a feeder of p?
+#[tactic(auto, unfolding(theory::specs::Tests::every))]
+fn all_fit(net: &Net<'_>, kind: Kind, p: u8, h: u8) -> bool
+    ensures { result ≡ every_transition (view net.now) (λ f. consumer? (view net.now) p f ⇒ every_place (λ q. nat_le ((product_row kind (view net.now) p h f).takes q) most_weight && nat_le ((product_row kind (view net.now) p h f).puts q) most_weight)) }
+{
+    transitions(net).all(|f| consumer_fits(net, &Pair { kind, p, h, f }))
 }
 
-// Are the products of the transition within the limit, if that is a feeder of p?
-#[derive(Drop)]
-pub struct FeederFits {
-    pub kind: Kind,
-    pub p: u8,
+// The same, if h is a feeder of p.
+fn feeder_fits(net: &Net<'_>, kind: Kind, p: u8, h: u8) -> bool
+    ensures { result ≡ (feeder? (view net.now) p h ⇒ every_transition (view net.now) (λ f. consumer? (view net.now) p f ⇒ every_place (λ q. nat_le ((product_row kind (view net.now) p h f).takes q) most_weight && nat_le ((product_row kind (view net.now) p h f).puts q) most_weight))) }
+{
+    put_of(net, h, p) == 0 || all_fit(net, kind, p, h)
 }
 
-impl TransitionTest for FeederFits {
-    ghost holds = { λ x s h. feeder? s x.p h ⇒ every_transition s (λ f. consumer? s x.p f ⇒ every_place (λ q. nat_le ((product_row x.kind s x.p h f).takes q) most_weight && nat_le ((product_row x.kind s x.p h f).puts q) most_weight)) };
-
-    fn test(&self, net: &Net<'_>, h: u8) -> bool {
-        put_of(net, h, self.p) == 0
-            || every_transition(
-                net,
-                &ConsumerFits {
-                    kind: self.kind,
-                    p: self.p,
-                    h,
-                },
-            )
-    }
+// Are the weights of all new rows within the limit?
+#[tactic(auto, unfolding(theory::specs::Tests::every))]
+pub fn products_fit(net: &Net<'_>, kind: Kind, p: u8) -> bool
+    ensures { result ≡ products_fit? (view net.now) p (product_row kind (view net.now) p) }
+{
+    transitions(net).all(|h| feeder_fits(net, kind, p, h))
 }

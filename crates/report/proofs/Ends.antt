@@ -3,21 +3,21 @@ use Rattle.std.proofs.Common.{◌≡◌, ℕ, ◌+◌, List, [], ◌∷◌, ◌+
 use Rattle.std.proofs.lemmas.List.{append_assoc}
 use Rattle.net.specs.declared.net.Told.{Told}
 use Rattle.net.specs.States.{State}
-use Rattle.basics.specs.declared.faults.BasicFault.{BasicFault}
-use Rattle.basics.specs.Faults.{basic_number}
+use Rattle.theory.specs.Steps.{refusal_number}
+use Rattle.books.specs.Faults.{book_number}
 use Rattle.session.specs.declared.faults.SessionFault.{SessionFault}
 use Rattle.session.specs.Faults.{session_told}
 use Rattle.session.specs.Feeds.{End}
 use Rattle.report.specs.declared.line.Line.{Line}
 use Rattle.report.specs.declared.line.Line.TheVariants.{Taken, Refused}
-use Rattle.report.specs.Lines.{place_lines, arc_lines, step_lines, end_lines}
+use Rattle.report.specs.Lines.{BasicFault, place_lines, arc_lines, step_lines, end_lines}
 
-pub told_lines : (a b c : List Line) (used : ℕ) (f : SessionFault BasicFault) (t : Told) → t ≡ session_told basic_number f
-    → b ≡ a ++ (Taken t.count ∷ []) → c ≡ b ++ (Refused t.number (used + t.byte) ∷ []) → c ≡ a ++ step_lines used (Err f)
+pub told_lines : (a b c : List Line) (used : ℕ) (f : SessionFault BasicFault) (t : Told) → t ≡ session_told (book_number refusal_number) f
+    → b ≡ a ++ (Taken t.origin.count ∷ []) → c ≡ b ++ (Refused t.number (used + t.origin.byte) ∷ []) → c ≡ a ++ step_lines used (Err f)
 told_lines a b c used f t e h k =
-    k ∙ ap (λ (l : List Line). l ++ (Refused t.number (used + t.byte) ∷ [])) h
-    ∙ append_assoc a (Taken t.count ∷ []) (Refused t.number (used + t.byte) ∷ [])
-    ∙ ap (λ (x : Told). a ++ (Taken x.count ∷ Refused x.number (used + x.byte) ∷ [])) e
+    k ∙ ap (λ (l : List Line). l ++ (Refused t.number (used + t.origin.byte) ∷ [])) h
+    ∙ append_assoc a (Taken t.origin.count ∷ []) (Refused t.number (used + t.origin.byte) ∷ [])
+    ∙ ap (λ (x : Told). a ++ (Taken x.origin.count ∷ Refused x.number (used + x.origin.byte) ∷ [])) e
 
 pub all_lines : (a b c d : List Line) (used : ℕ) (said : Result ℕ (SessionFault BasicFault)) (n o : State) (E : End BasicFault)
     → a ≡ [] → b ≡ a ++ step_lines used said → c ≡ b ++ place_lines n → d ≡ c ++ arc_lines o

@@ -1,4 +1,4 @@
 pub mod Below
-pub mod Printing
 pub mod Readings
 pub mod Ends
+pub mod Printing

@@ -1,12 +1,8 @@
 -- The text of lines, one after another.
-use Rattle.std.proofs.Common.{◌≡◌, ℕ, ◌+◌, ◌<◌, List, [], ◌∷◌, ◌++◌, length, get_or, take, sym, ap, ◌∙◌}
-use Rattle.std.proofs.lemmas.List.{append_assoc, take_more, flat_map_more}
+use Rattle.std.proofs.Common.{◌≡◌, ℕ, ◌+◌, ◌<◌, List, [], ◌++◌, length, get_or, take, sym, ap, ◌∙◌}
+use Rattle.std.proofs.lemmas.List.{take_more, flat_map_more}
 use Rattle.report.specs.declared.line.Line.{Line}
 use Rattle.report.specs.Texts.{ended_line, printed}
-
-pub pushed_line : (out out₁ out₂ t s feed : List ℕ) → s ≡ t → out₁ ≡ out ++ s → out₂ ≡ out₁ ++ feed → feed ≡ 10 ∷ [] → out₂ ≡ out ++ (t ++ (10 ∷ []))
-pushed_line out out₁ out₂ t s feed a b c d =
-    c ∙ ap (λ (l : List ℕ). out₁ ++ l) d ∙ ap (λ (l : List ℕ). l ++ (10 ∷ [])) (b ∙ ap (λ (l : List ℕ). out ++ l) a) ∙ append_assoc out t (10 ∷ [])
 
 pub printed_more : (ls : List Line) (i : ℕ) (d : Line) (out out₁ : List ℕ) → i < length ls → out ≡ printed (take i ls) → out₁ ≡ out ++ ended_line (get_or ls i d)
     → out₁ ≡ printed (take (i + 1) ls)

@@ -3,21 +3,23 @@ use Rattle.std.specs.Prelude.{ℕ, zero, suc, ◌+◌, cond, List, [], ◌∷◌
 use Rattle.net.specs.declared.net.Look.{Look}
 use Rattle.net.specs.declared.net.Look.TheVariants as look
 use Rattle.net.specs.declared.net.NetFault.{NetFault}
+use Rattle.net.specs.declared.net.Side.{Side}
+use Rattle.net.specs.declared.net.Side.TheVariants.{Takes, Puts}
 use Rattle.net.specs.States.{State}
 use Rattle.net.specs.Looks.{looked}
 use Rattle.stream.specs.declared.faults.ReadFault.{ReadFault}
 use Rattle.stream.specs.Faults.{read_told}
 use Rattle.stream.specs.Streams.{Reading, reading}
-use Rattle.basics.specs.declared.faults.BasicFault.{BasicFault}
+use Rattle.theory.specs.declared.refusal.Refusal.{Refusal}
+use Rattle.theory.specs.Steps.{refusal_number}
+use Rattle.books.specs.declared.faults.BookFault.{BookFault}
+use Rattle.books.specs.Faults.{book_number}
 use Rattle.basics.specs.Basics.{basic_width, basic_taken}
-use Rattle.basics.specs.Faults.{basic_number}
 use Rattle.session.specs.declared.faults.SessionFault.{SessionFault}
 use Rattle.session.specs.Faults.{session_told}
 use Rattle.session.specs.Feeds.{Meaning, meaning, End, fed}
 use Rattle.report.specs.declared.line.Line.{Line}
 use Rattle.report.specs.declared.line.Line.TheVariants.{Long, Net, Taken, Refused, Place, Take, Put}
-use Rattle.report.specs.declared.line.Side.{Side}
-use Rattle.report.specs.declared.line.Side.TheVariants.{In, Out}
 
 -- The most bytes that the program reads.
 abbrev pub most_input : ℕ
@@ -38,12 +40,12 @@ place_lines s = below 64 (λ p. shown_place p (looked s (look.Mark p)))
 
 -- An arc has a line: its transition, its place and its weight.
 abbrev pub side_look : Side → ℕ → ℕ → Look
-side_look In t p = look.Take t p
-side_look Out t p = look.Put t p
+side_look Takes t p = look.Take t p
+side_look Puts t p = look.Put t p
 
 abbrev pub side_line : Side → ℕ → ℕ → ℕ → Line
-side_line In t p w = Take t p w
-side_line Out t p w = Put t p w
+side_line Takes t p w = Take t p w
+side_line Puts t p w = Put t p w
 
 abbrev pub shown_arc : Side → ℕ → ℕ → Result ℕ NetFault → List Line
 shown_arc k t p (Ok w) = cond (w == 0) [] (side_line k t p w ∷ [])
@@ -54,7 +56,7 @@ side_lines s k t = below 64 (λ p. shown_arc k t p (looked s (side_look k t p)))
 
 -- For each transition its takes by place, then its puts by place.
 abbrev pub transition_lines : State → ℕ → List Line
-transition_lines s t = side_lines s In t ++ side_lines s Out t
+transition_lines s t = side_lines s Takes t ++ side_lines s Puts t
 
 abbrev pub arc_lines : State → List Line
 arc_lines s = below s.transitions (λ t. transition_lines s t)
@@ -62,10 +64,14 @@ arc_lines s = below s.transitions (λ t. transition_lines s t)
 abbrev pub net_lines : State → List Line
 net_lines s = place_lines s ++ arc_lines s
 
+-- What the house book refuses.
+abbrev pub BasicFault : Type 0
+BasicFault = BookFault Refusal 0x20
+
 -- The steps behind the net: how many were taken and, where one was refused, its number and the byte of the input where it starts.
 abbrev pub step_lines : ℕ → Result ℕ (SessionFault BasicFault) → List Line
 step_lines used (Ok n) = Taken n ∷ []
-step_lines used (Err f) = Taken f.count ∷ Refused (session_told basic_number f).number (used + f.byte) ∷ []
+step_lines used (Err f) = Taken f.origin.count ∷ Refused (session_told (book_number refusal_number) f).number (used + f.origin.byte) ∷ []
 
 -- Then the net that stands.
 abbrev pub end_lines : ℕ → End BasicFault → List Line
@@ -77,7 +83,7 @@ house = meaning basic_width basic_taken
 
 -- A refused net has one line: the number of the refusal, and the byte where the refused command starts.
 abbrev pub fault_line : ReadFault → Line
-fault_line f = Net (read_told f).number (read_told f).byte
+fault_line f = Net (read_told f).number (read_told f).origin.byte
 
 abbrev pub reading_lines : Result Reading ReadFault → List ℕ → List Line
 reading_lines (Ok r) bs = end_lines r.used (fed house r.state (drop r.used bs))

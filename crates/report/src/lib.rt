@@ -1,44 +1,39 @@
 // From input bytes to the lines that the program prints.
 #![tactic(auto)]
 
-ghost use Rattle.std.specs.Prelude.{◌≡◌, ℕ, ◌+◌, ◌-◌, ◌*◌, ◌<◌, ◌≤◌, List, [], ◌∷◌, ◌++◌, length, drop, IfOk, vec_len, string_bytes, OnOk};
+ghost use Rattle.std.specs.Prelude.{◌≡◌, ◌-◌, ◌≤◌, ◌++◌, length, drop, IfOk, vec_len, string_bytes, OnOk};
 ghost use Rattle.net.specs.declared.net.Look.TheVariants.{Mark};
 ghost use Rattle.net.specs.Looks.{looked};
 ghost use Rattle.net.specs.States.{view};
 ghost use Rattle.session.specs.Views.{opened};
 ghost use Rattle.session.specs.Feeds.{fed, PlaceWithin};
 ghost use Rattle.stream.specs.Streams.{reading};
-ghost use Rattle.report.specs.Lines.{shown_place, shown_arc, place_lines, side_look, side_line, side_lines, transition_lines, arc_lines, step_lines, end_lines, house, fault_line, reading_lines, reported};
-ghost use Rattle.report.specs.Texts.{text, ended_line, printed};
+ghost use Rattle.report.specs.Lines.{shown_place, shown_arc, place_lines, side_look, side_line, side_lines, transition_lines, arc_lines, step_lines, end_lines, house, reading_lines, reported};
+ghost use Rattle.report.specs.Texts.{ended_line, printed};
 
 mod line;
 
 use basics::{BasicFault, Basics};
 pub use line::Line;
-use line::Side;
-use net::{Draft, Look, Net};
+use net::{Draft, Look, Net, SHEET_SIZE, Side};
 use session::{Session, SessionFault};
 use std::alloc::{AllocError, Global};
-use stream::{ReadFault, read};
+use stream::read;
 
 // The most bytes of an input.
 const MOST_INPUT: usize = 32_768;
-
-// The numbers of a sheet.
-const SHEET_SIZE: usize = 12_352;
 
 // The line of a place, if it stands.
 fn place_line(lines: &mut Vec<Line>, net: &Net<'_>, p: usize) -> Result<(), AllocError>
     ensures { OnOk result (lines.new.items ≡ lines.old.items ++ shown_place p (looked (view net.now) (Mark p))) }
 {
-    match net.look(Look::Mark(p)) {
-        Ok(mark) => lines.push(Line::Place(p, mark))?,
-        Err(_) => {}
+    if let Ok(mark) = net.look(Look::Mark(p)) {
+        lines.push(Line::Place(p, mark))?;
     }
     Ok(())
 }
 
-// The lines of the standing places.
+// The lines of the standing places. Each push may fail, so that this is a `for` and no chain.
 fn place_lines(lines: &mut Vec<Line>, net: &Net<'_>) -> Result<(), AllocError>
     ensures { OnOk result (lines.new.items ≡ lines.old.items ++ place_lines (view net.now)) }
 {
@@ -48,25 +43,23 @@ fn place_lines(lines: &mut Vec<Line>, net: &Net<'_>) -> Result<(), AllocError>
     Ok(())
 }
 
-impl Side {
-    // The look for an arc of this side.
-    fn look(self, t: usize, p: usize) -> Look
-        ensures { result ≡ side_look self t p }
-    {
-        match self {
-            Side::In => Look::Take(t, p),
-            Side::Out => Look::Put(t, p),
-        }
+// The look for an arc on one side of a transition.
+fn side_look(side: Side, t: usize, p: usize) -> Look
+    ensures { result ≡ side_look side t p }
+{
+    match side {
+        Side::Takes => Look::Take(t, p),
+        Side::Puts => Look::Put(t, p),
     }
+}
 
-    // The line of an arc of this side.
-    fn line(self, t: usize, p: usize, weight: u32) -> Line
-        ensures { result ≡ side_line self t p weight }
-    {
-        match self {
-            Side::In => Line::Take(t, p, weight),
-            Side::Out => Line::Put(t, p, weight),
-        }
+// The line of an arc on one side of a transition.
+fn side_line(side: Side, t: usize, p: usize, weight: u32) -> Line
+    ensures { result ≡ side_line side t p weight }
+{
+    match side {
+        Side::Takes => Line::Take(t, p, weight),
+        Side::Puts => Line::Put(t, p, weight),
     }
 }
 
@@ -80,9 +73,9 @@ fn arc_line(
 ) -> Result<(), AllocError>
     ensures { OnOk result (lines.new.items ≡ lines.old.items ++ shown_arc side t p (looked (view net.now) (side_look side t p))) }
 {
-    match net.look(side.look(t, p)) {
+    match net.look(side_look(side, t, p)) {
         Ok(0) | Err(_) => {}
-        Ok(weight) => lines.push(side.line(t, p, weight))?,
+        Ok(weight) => lines.push(side_line(side, t, p, weight))?,
     }
     Ok(())
 }
@@ -101,8 +94,8 @@ fn side_lines(lines: &mut Vec<Line>, net: &Net<'_>, side: Side, t: usize) -> Res
 fn transition_lines(lines: &mut Vec<Line>, net: &Net<'_>, t: usize) -> Result<(), AllocError>
     ensures { OnOk result (lines.new.items ≡ lines.old.items ++ transition_lines (view net.now) t) }
 {
-    side_lines(lines, net, Side::In, t)?;
-    side_lines(lines, net, Side::Out, t)?;
+    side_lines(lines, net, Side::Takes, t)?;
+    side_lines(lines, net, Side::Puts, t)?;
     Ok(())
 }
 
@@ -116,31 +109,11 @@ fn arc_lines(lines: &mut Vec<Line>, net: &Net<'_>) -> Result<(), AllocError>
     Ok(())
 }
 
-impl Line {
-    // The text of the line.
-    pub fn text(self, heap: Global) -> Result<String, AllocError>
-        ensures { IfOk result (λ s. string_bytes s ≡ text self) }
-    {
-        match self {
-            Line::Long => String::from_str(heap, "long"),
-            Line::Net(number, at) => format!(in heap; "net {number} {at}"),
-            Line::Taken(count) => format!(in heap; "taken {count}"),
-            Line::Refused(number, at) => format!(in heap; "refused {number} {at}"),
-            Line::Place(p, mark) => format!(in heap; "place {p} {mark}"),
-            Line::Take(t, p, weight) => format!(in heap; "take {t} {p} {weight}"),
-            Line::Put(t, p, weight) => format!(in heap; "put {t} {p} {weight}"),
-        }
-    }
-}
-
 // Adds a line and a line feed.
-fn print_line(out: &mut String, heap: Global, line: Line) -> Result<(), AllocError>
-    ensures { OnOk result (string_bytes out.new ≡ string_bytes out.old ++ ended_line line) }
+fn print_line(out: &mut String, line: &Line) -> Result<(), AllocError>
+    ensures { OnOk result (string_bytes out.new ≡ string_bytes out.old ++ ended_line line.now) }
 {
-    let text = line.text(heap)?;
-    out.push_str(text.as_str())?;
-    out.push('\n')?;
-    Ok(())
+    writeln!(out, "{line}")
 }
 
 // The text of all lines, each ended by a line feed.
@@ -149,7 +122,7 @@ pub fn print(heap: Global, lines: &[Line]) -> Result<String, AllocError>
 {
     let mut out = String::new(heap);
     for line in lines {
-        print_line(&mut out, heap, *line)?;
+        print_line(&mut out, line)?;
     }
     Ok(out)
 }
@@ -169,8 +142,8 @@ fn step_lines(
         Ok(count) => lines.push(Line::Taken(count))?,
         Err(fault) => {
             let told = fault.told();
-            lines.push(Line::Taken(told.count))?;
-            lines.push(Line::Refused(told.number, used + told.byte))?;
+            lines.push(Line::Taken(told.origin.count))?;
+            lines.push(Line::Refused(told.number, used + told.origin.byte))?;
         }
     }
     Ok(())
@@ -194,23 +167,6 @@ fn session_lines(
     Ok(lines)
 }
 
-// A list of one line.
-fn only(heap: Global, line: Line) -> Result<Vec<Line>, AllocError>
-    ensures { IfOk result (λ v. v.items ≡ line ∷ []) }
-{
-    let mut lines = Vec::new(heap);
-    lines.push(line)?;
-    Ok(lines)
-}
-
-// The line of a refused net: the number and the byte of the refused command.
-fn fault_line(fault: ReadFault) -> Line
-    ensures { result ≡ fault_line fault }
-{
-    let told = fault.told();
-    Line::Net(told.number, told.byte)
-}
-
 // A sheet of n numbers.
 fn new_sheet(heap: Global, n: usize) -> Result<Vec<u32>, AllocError>
     ensures { IfOk result (λ v. vec_len v ≡ n) }
@@ -226,7 +182,7 @@ fn report_over(heap: Global, sheet: &mut [u32], input: &[u8]) -> Result<Vec<Line
     let mut draft = Draft::start(sheet);
     match read(&mut draft, input) {
         Ok(used) => session_lines(heap, &mut Session::open(draft), input, used),
-        Err(fault) => only(heap, fault_line(fault)),
+        Err(fault) => Ok(vec![in heap; Line::from(fault)]?),
     }
 }
 
@@ -235,7 +191,7 @@ pub fn report(heap: Global, input: &[u8]) -> Result<Vec<Line>, AllocError>
     ensures { IfOk result (λ v. v.items ≡ reported input.now) }
 {
     if input.len() > MOST_INPUT {
-        return only(heap, Line::Long);
+        return Ok(vec![in heap; Line::Long]?);
     }
     let mut sheet = new_sheet(heap, SHEET_SIZE)?;
     report_over(heap, &mut sheet, input)

@@ -1,7 +1,9 @@
 pub mod Closing
 pub mod Keeping
-mod Leaving
 mod Limiting
 mod Marking
+pub mod Those
+mod Wiping
+mod Writing
 pub mod Parts
 pub mod Reading

@@ -1,18 +1,17 @@
--- The rows that are kept, the rows without a place, and what closing rows up leaves.
-use Rattle.std.specs.Prelude.{◌≡◌, ℕ, ◌+◌, ◌*◌, ◌<◌, ◌≤◌, Bool, ◌&&◌, List, map, length, slice_index}
-use Rattle.net.specs.Sheets.{Row, row_at, rows_in}
+-- The rows that are kept, the rows without some places, what a sheet of the right size becomes, and what closing rows up leaves.
+use Rattle.std.specs.Prelude.{◌≡◌, ℕ, ◌+◌, ◌*◌, ◌<◌, ◌≤◌, Bool, cond, ◌&&◌, List, [], ◌∷◌, map, length, Result, nat_eq, slice_index}
+use Rattle.net.specs.declared.net.NetFault.{NetFault}
+use Rattle.net.specs.declared.net.NetFault.TheVariants.{WrongSize}
+use Rattle.net.specs.Refusals.{◌unless◌, judged}
+use Rattle.net.specs.Sheets.{Row, row_at, rows_in, sheet_size}
 use Rattle.net.specs.States.{State, stands, mark}
 use Rattle.theory.specs.Nexts.{inside}
-use Rattle.theory.specs.Rewrites.{off_row, rewritten, flags_by}
+use Rattle.theory.specs.Rewrites.{rewritten, flags_by}
 use Rattle.theory.specs.Tests.{those}
 
 -- Of the first `n` rows of a sheet those of which `keep` is true.
 abbrev pub kept_in : (ℕ → Bool) → List ℕ → ℕ → List Row
 kept_in keep xs n = map (row_at xs) (those keep n)
-
--- The first `n` rows of a sheet with 0 at place `p`.
-abbrev pub off_in : ℕ → List ℕ → ℕ → List Row
-off_in p xs n = map (off_row p) (rows_in xs n)
 
 -- The first `n` rows of a sheet with their takes and their puts changed by `F`.
 abbrev pub changed_row : ((ℕ → ℕ) → ℕ → ℕ) → Row → Row
@@ -25,9 +24,16 @@ changed_in F xs n = map (changed_row F) (rows_in xs n)
 abbrev pub limited_to : (ℕ → Bool) → State → State
 limited_to z s = rewritten s (inside z (mark s)) (changed_in (inside z) s.sheet s.transitions) (flags_by (λ p. stands s p && z p))
 
--- The rows of `xs` with the numbers `l` stand first in `ys`, and there are `k` of them; all else is as in `xs`.
-pub record Closed (xs ys l : List ℕ) (k : ℕ) : Type 0 where
-  pub count : k ≡ length l
+-- What a sheet of the right size gives; another one is refused.
+abbrev pub given : {X : Type 0} → List ℕ → X → Result X NetFault
+given xs x = judged (WrongSize unless nat_eq (length xs) sheet_size ∷ []) x
+
+-- A sheet of the right size is written over with `ys`; another one stays.
+abbrev pub written : List ℕ → List ℕ → List ℕ
+written xs ys = cond (nat_eq (length xs) sheet_size) ys xs
+
+-- The rows of `xs` with the numbers `l` stand first in `ys`; all else is as in `xs`.
+pub record Closed (xs ys l : List ℕ) : Type 0 where
   pub marks : (i : ℕ) → i < 64 → slice_index ys i ≡ slice_index xs i
-  pub rows : (u j : ℕ) → u < k → j < 128 → slice_index ys (64 + 128 * u + j) ≡ slice_index xs (64 + 128 * slice_index l u + j)
-  pub rest : (i : ℕ) → 64 + 128 * k ≤ i → slice_index ys i ≡ slice_index xs i
+  pub rows : (u j : ℕ) → u < length l → j < 128 → slice_index ys (64 + 128 * u + j) ≡ slice_index xs (64 + 128 * slice_index l u + j)
+  pub rest : (i : ℕ) → 64 + 128 * length l ≤ i → slice_index ys i ≡ slice_index xs i

@@ -1,183 +1,176 @@
 // Rewrites of a net in place: transitions are dropped and the list closes up, places go, and marks change.
 #![tactic(auto)]
 
-ghost use Rattle.std.specs.Prelude.{◌≡◌, ℕ, ◌+◌, ◌*◌, ◌%◌, ◌<◌, ◌≤◌, true, false, ◌&&◌, length, if◌then◌else◌, Ok, nat_eq, slice_index, slice_index_or};
-ghost use Rattle.net.specs.Looks.{measured, sheet_checks, place_checks, place_checked};
+ghost use Rattle.std.specs.Prelude.{◌≡◌, ℕ, ◌+◌, ◌*◌, ◌%◌, ◌<◌, ◌≤◌, Bool, false, ◌&&◌, length, if◌then◌else◌, IfOk, nat_lt, slice_index, slice_index_or};
+ghost use Rattle.net.specs.Looks.{sheet_checks, place_checks};
 ghost use Rattle.net.specs.Refusals.{judged};
 ghost use Rattle.net.specs.Sheets.{mark_at, sheet_of};
 ghost use Rattle.net.specs.States.{view, Answered};
 ghost use Rattle.theory.specs.Nexts.{off, inside};
 ghost use Rattle.theory.specs.Rewrites.{keeping, leaving, flags_by};
 ghost use Rattle.theory.specs.Tests.{those, member};
-ghost use Rattle.rewrites.specs.Rows.{kept_in, off_in, changed_in, limited_to, Closed};
+ghost use Rattle.rewrites.specs.Rows.{kept_in, changed_in, limited_to, given, written, Closed};
 
 mod marks;
 
-use checks::{TransitionTest, flags_by, is_member};
+use checks::{Test, Transition, flags, is_member};
 pub use marks::write_marks;
-use net::{Net, NetFault, flag_at, measure};
+use net::{Net, NetFault, SHEET_SIZE, Shape};
+use std::array;
 
-// The parts of 64 numbers of a sheet: the marks, and the takes and the puts of each transition.
-const PARTS: usize = 193;
+// The sheet and the shape of a net are passed apart: only the sheet becomes an array, once its size is known.
 
 // Copies a row over an earlier one, or over itself.
-fn copy_row(sheet: &mut [u32], from: usize, to: usize)
-    requires { (length sheet.old ≡ 12352) × ((from < 96) × (to ≤ from)) }
+fn copy_row(sheet: &mut [u32; SHEET_SIZE], from: usize, to: usize)
+    requires { (from < 96) × (to ≤ from) }
     ensures row { (j : ℕ) → j < 128 → slice_index sheet.new (64 + 128 * to + j) ≡ slice_index sheet.old (64 + 128 * from + j) }
     ensures before { (i : ℕ) → i < 64 + 128 * to → slice_index sheet.new i ≡ slice_index sheet.old i }
     ensures after { (i : ℕ) → 192 + 128 * to ≤ i → slice_index sheet.new i ≡ slice_index sheet.old i }
 {
-    for j in 0..128 {
-        sheet[64 + 128 * to + j] = sheet[64 + 128 * from + j];
+    sheet.copy_within(64 + 128 * from..192 + 128 * from, 64 + 128 * to);
+}
+
+// Closes up the rows of the transitions that stay.
+fn close_up(sheet: &mut [u32; SHEET_SIZE], shape: &Shape, keep: &[bool; 96])
+    ensures { Closed sheet.old sheet.new (those (λ t. slice_index_or keep.now t false) shape.now.transitions) }
+{
+    for (to, t) in (0..shape.transitions).filter(|t| keep[*t]).enumerate() {
+        copy_row(sheet, t, to);
     }
 }
 
-// Closes up, of the first n rows, those whose flag is true, and tells how many they are.
-fn close_up(sheet: &mut [u32], n: usize, keep: &[bool; 96]) -> usize
-    requires { (length sheet.old ≡ 12352) × (n ≤ 96) }
-    ensures few { result ≤ n }
-    ensures closed { Closed sheet.old sheet.new (those (λ t. slice_index_or keep.now t false) n) result }
+// How many transitions stay.
+fn count_kept(shape: &Shape, keep: &[bool; 96]) -> usize
+    ensures count { result ≡ length (those (λ t. slice_index_or keep.now t false) shape.now.transitions) }
+    ensures few { result ≤ 96 }
 {
-    let mut to = 0;
-    for t in 0..n {
-        if keep[t] {
-            copy_row(sheet, t, to);
-            to += 1;
-        }
-    }
-    to
+    (0..shape.transitions).filter(|t| keep[*t]).count()
 }
 
-// Writes 0 from an index to the end.
-fn wipe_from(sheet: &mut [u32], from: usize)
-    ensures before { (i : ℕ) → i < from → slice_index sheet.new i ≡ slice_index sheet.old i }
-    ensures after { (i : ℕ) → from ≤ i → i < length sheet.old → slice_index sheet.new i ≡ 0 }
+// Writes 0 behind the first n rows.
+#[tactic(auto, using(crate::proofs::Wiping::wiped))]
+fn wipe_after(sheet: &mut [u32; SHEET_SIZE], n: usize)
+    requires { n ≤ 96 }
+    ensures before { (i : ℕ) → i < 64 + 128 * n → slice_index sheet.new i ≡ slice_index sheet.old i }
+    ensures after { (i : ℕ) → 64 + 128 * n ≤ i → slice_index sheet.new i ≡ 0 }
+    ensures size { length sheet.new ≡ 12352 }
 {
-    for i in from..sheet.len() {
-        sheet[i] = 0;
-    }
+    sheet[64 + 128 * n..].fill(0);
 }
 
-// Keeps, of the first n rows, those whose flag is true; the list closes up, and what follows becomes 0.
-fn keep_rows(sheet: &mut [u32], n: usize, keep: &[bool; 96]) -> usize
-    requires { (length sheet.old ≡ 12352) × (n ≤ 96) }
-    ensures few { result ≤ n }
-    ensures count { result ≡ length (kept_in (λ t. slice_index_or keep.now t false) sheet.old n) }
-    ensures sheet { sheet.new ≡ sheet_of (mark_at sheet.old) (kept_in (λ t. slice_index_or keep.now t false) sheet.old n) }
+// Keeps the rows of the transitions that stay, closed up, and tells how many they are; what follows becomes 0.
+fn keep_rows(sheet: &mut [u32], shape: &Shape, keep: &[bool; 96]) -> Result<usize, NetFault>
+    ensures answer { result ≡ given sheet.old (length (kept_in (λ t. slice_index_or keep.now t false) sheet.old shape.now.transitions)) }
+    ensures few { IfOk result (λ n. n ≤ 96) }
+    ensures sheet { sheet.new ≡ written sheet.old (sheet_of (mark_at sheet.old) (kept_in (λ t. slice_index_or keep.now t false) sheet.old shape.now.transitions)) }
 {
-    let kept = close_up(sheet, n, keep);
-    wipe_from(sheet, 64 + 128 * kept);
-    kept
+    let sheet = sheet.as_mut_array().ok_or(NetFault::WrongSize)?;
+    let kept = count_kept(shape, keep);
+    close_up(sheet, shape, keep);
+    wipe_after(sheet, kept);
+    Ok(kept)
 }
 
-// Writes 0 at a place in every part.
-fn clear_place(sheet: &mut [u32], p: usize)
-    requires { (length sheet.old ≡ 12352) × (p < 64) }
-    ensures { (i : ℕ) → slice_index sheet.new i ≡ (if nat_eq (i % 64) p then 0 else slice_index sheet.old i) }
+// Writes 0 at the places of which the test fails, in every part.
+fn clear_rest<F: Fn(u8) -> bool>(sheet: &mut [u32; SHEET_SIZE], stays: F)
+    requires { F.IsAlwaysCallable stays }
+    ensures { (i : ℕ) → i < 12352 → (b : Bool) × F.post stays (i % 64) b × (slice_index sheet.new i ≡ (if b then slice_index sheet.old i else 0)) }
 {
-    for part in 0..PARTS {
-        sheet[64 * part + p] = 0;
-    }
-}
-
-// Takes a place out of the marks and the first n rows; what follows becomes 0.
-fn leave_place(sheet: &mut [u32], n: usize, p: usize)
-    requires { (length sheet.old ≡ 12352) × ((n ≤ 96) × (p < 64)) }
-    ensures count { n ≡ length (off_in p sheet.old n) }
-    ensures sheet { sheet.new ≡ sheet_of (off p (mark_at sheet.old)) (off_in p sheet.old n) }
-{
-    clear_place(sheet, p);
-    wipe_from(sheet, 64 + 128 * n);
-}
-
-// Writes 0 at the places outside a set, in every part.
-fn clear_outside(sheet: &mut [u32], set: &[u8; 8])
-    requires { length sheet.old ≡ 12352 }
-    ensures { (i : ℕ) → slice_index sheet.new i ≡ (if member set.now (i % 64) then slice_index sheet.old i else 0) }
-{
-    for p in 0..64u8 {
-        if !is_member(set, p) {
-            clear_place(sheet, p as usize);
+    for (i, number) in sheet.iter_mut().enumerate() {
+        if !stays((i % 64) as u8) {
+            *number = 0;
         }
     }
 }
 
-// Takes the places outside a set out of the marks and the first n rows; what follows becomes 0.
-fn leave_outside(sheet: &mut [u32], n: usize, set: &[u8; 8])
-    requires { (length sheet.old ≡ 12352) × (n ≤ 96) }
-    ensures count { n ≡ length (changed_in (inside (member set.now)) sheet.old n) }
-    ensures sheet { sheet.new ≡ sheet_of (inside (member set.now) (mark_at sheet.old)) (changed_in (inside (member set.now)) sheet.old n) }
+// Takes the places of which the test fails out of the marks and the rows; what follows becomes 0.
+fn leave_rest<F: Fn(u8) -> bool>(sheet: &mut [u32], shape: &Shape, stays: F) -> Result<(), NetFault>
+    requires { F.IsAlwaysCallable stays }
+    ensures answer { result ≡ given sheet.old tt }
+    ensures sheet { (change : (ℕ → ℕ) → ℕ → ℕ) → ((f : ℕ → ℕ) (p : ℕ) (b : Bool) → p < 64 → F.post stays p b → (if b then f p else 0) ≡ change f p) → sheet.new ≡ written sheet.old (sheet_of (change (mark_at sheet.old)) (changed_in change sheet.old shape.now.transitions)) }
 {
-    clear_outside(sheet, set);
-    wipe_from(sheet, 64 + 128 * n);
+    let sheet = sheet.as_mut_array().ok_or(NetFault::WrongSize)?;
+    clear_rest(sheet, stays);
+    wipe_after(sheet, shape.transitions);
+    Ok(())
+}
+
+// Takes a place out of the marks and the rows.
+fn leave_place(sheet: &mut [u32], shape: &Shape, p: usize) -> Result<(), NetFault>
+    ensures answer { result ≡ given sheet.old tt }
+    ensures sheet { sheet.new ≡ written sheet.old (sheet_of (off p (mark_at sheet.old)) (changed_in (off p) sheet.old shape.now.transitions)) }
+{
+    leave_rest(sheet, shape, |q| usize::from(q) != p)
+}
+
+// Takes the places outside a set out of the marks and the rows.
+fn leave_outside(sheet: &mut [u32], shape: &Shape, set: &[u8; 8]) -> Result<(), NetFault>
+    ensures answer { result ≡ given sheet.old tt }
+    ensures sheet { sheet.new ≡ written sheet.old (sheet_of (inside (member set.now) (mark_at sheet.old)) (changed_in (inside (member set.now)) sheet.old shape.now.transitions)) }
+{
+    leave_rest(sheet, shape, |p| is_member(set, p))
+}
+
+// Does the place stand, and is it in the set?
+fn stands_inside(standing: &[bool; 64], set: &[u8; 8], p: usize) -> bool
+    requires { p < 64 }
+    ensures { result ≡ (slice_index_or standing.now p false && member set.now p) }
+{
+    standing[p] && is_member(set, p as u8)
 }
 
 // The flags of the places, false outside a set.
-fn flags_inside(flags: &[bool; 64], set: &[u8; 8]) -> [bool; 64]
-    ensures { result ≡ flags_by (λ p. slice_index_or flags.now p false && member set.now p) }
+fn flags_inside(standing: &[bool; 64], set: &[u8; 8]) -> [bool; 64]
+    ensures { result ≡ flags_by (λ p. slice_index_or standing.now p false && member set.now p) }
 {
-    let mut inside = [false; 64];
-    for p in 0..64u8 {
-        inside[p as usize] = flags[p as usize] && is_member(set, p);
-    }
-    inside
-}
-
-// Has the sheet the size of a net's sheet?
-fn check_sheet(net: &Net<'_>) -> Result<(), NetFault>
-    ensures { result ≡ measured (view net.now).sheet }
-{
-    measure(net.sheet)
-}
-
-// May a call name this place?
-fn check_place(net: &Net<'_>, p: usize) -> Result<(), NetFault>
-    ensures value { result ≡ place_checked (view net.now) p }
-    ensures within { result ≡ Ok tt → (length net.now.sheet.now ≡ 12352) × (p < 64) }
-{
-    check_sheet(net)?;
-    if !flag_at(&net.shape.standing, p) {
-        return Err(NetFault::NoPlace);
-    }
-    Ok(())
+    array::from_fn(|p| stands_inside(standing, set, p))
 }
 
 // Keeps the transitions whose flag is true, and the list closes up; all rows after them become 0.
 pub fn keep_transitions(net: &mut Net<'_>, keep: &[bool; 96]) -> Result<(), NetFault>
     ensures { Answered result (view net.new) (view net.old) (judged (sheet_checks (view net.old)) (keeping (λ t. slice_index_or keep.now t false) (view net.old))) }
 {
-    check_sheet(net)?;
-    let n = net.shape.transitions;
-    net.shape.transitions = keep_rows(net.sheet, n, keep);
+    net.shape.transitions = keep_rows(net.sheet, &net.shape, keep)?;
     Ok(())
 }
 
-// Keeps the transitions of which the test holds, and the list closes up.
-pub fn keep_where<T: TransitionTest>(net: &mut Net<'_>, test: &T) -> Result<(), NetFault>
-    ensures { Answered result (view net.new) (view net.old) (judged (sheet_checks (view net.old)) (keeping (T.TransitionTest.holds test.now (view net.old)) (view net.old))) }
+// Keeps the transitions of which the test holds, given its flags. The test itself is only spoken of.
+fn keep_flagged<T: Test<Of = Transition>>(
+    net: &mut Net<'_>,
+    _test: &T,
+    keep: &[bool; 96],
+) -> Result<(), NetFault>
+    requires { (i : ℕ) → slice_index_or keep.now i false ≡ (nat_lt i (view net.old).transitions && T.Test.holds _test.now (view net.old) i) }
+    ensures { Answered result (view net.new) (view net.old) (judged (sheet_checks (view net.old)) (keeping (T.Test.holds _test.now (view net.old)) (view net.old))) }
 {
-    let keep = flags_by(net, test);
-    keep_transitions(net, &keep)
+    keep_transitions(net, keep)
+}
+
+// Keeps the transitions of which the test holds, and the list closes up.
+pub fn keep_where<T: Test<Of = Transition>>(net: &mut Net<'_>, test: &T) -> Result<(), NetFault>
+    ensures { Answered result (view net.new) (view net.old) (judged (sheet_checks (view net.old)) (keeping (T.Test.holds test.now (view net.old)) (view net.old))) }
+{
+    let keep = flags(net, test);
+    keep_flagged(net, test, &keep)
 }
 
 // Removes the places outside a set: their marks, takes and puts become 0, and they no longer stand.
+#[tactic(auto, using(crate::proofs::Parts::length_changed))]
 pub fn limit_places(net: &mut Net<'_>, set: &[u8; 8]) -> Result<(), NetFault>
     ensures { Answered result (view net.new) (view net.old) (judged (sheet_checks (view net.old)) (limited_to (member set.now) (view net.old))) }
 {
-    check_sheet(net)?;
-    let n = net.shape.transitions;
-    leave_outside(net.sheet, n, set);
+    leave_outside(net.sheet, &net.shape, set)?;
     net.shape.standing = flags_inside(&net.shape.standing, set);
     Ok(())
 }
 
 // Removes a place: its mark, takes and puts become 0, and it no longer stands.
+#[tactic(auto, using(crate::proofs::Parts::length_changed))]
 pub fn remove_place(net: &mut Net<'_>, p: usize) -> Result<(), NetFault>
     ensures { Answered result (view net.new) (view net.old) (judged (place_checks (view net.old) p) (leaving p (view net.old))) }
 {
-    check_place(net, p)?;
-    let n = net.shape.transitions;
-    leave_place(net.sheet, n, p);
+    net.check_place(p)?;
+    leave_place(net.sheet, &net.shape, p)?;
     net.shape.standing[p] = false;
     Ok(())
 }

@@ -4,9 +4,9 @@ use Rattle.std.proofs.lemmas.Bool.{leb-true}
 use Rattle.net.specs.States.{State, Answered}
 use Rattle.net.proofs.Tables.{passed, ok_same, err_same, ok_not_err}
 use Rattle.books.specs.declared.faults.Misfit.{Misfit}
-use Rattle.books.specs.Frames.{Widths}
+use Rattle.books.specs.Frames.{Widths, step_length, front_table, front}
 use Rattle.session.specs.declared.faults.SessionFault.{SessionFault}
-use Rattle.session.specs.Feeds.{Meaning, Step, End, ended, by_book, step_length, front_table, front, with_used, after_front, stepped, go_on, fed_from, used_of, state_of, StepAnswered, FeedAnswered}
+use Rattle.session.specs.Feeds.{Meaning, Step, End, ended, by_book, with_used, after_front, stepped, go_on, fed_from, used_of, state_of, StepAnswered, FeedAnswered}
 
 -- The front of the bytes by what the book says of their first byte.
 pub front_by : (width : Widths) (bs : List ℕ) (b : ℕ) (o : Option ℕ) → o ≡ width b → b ≡ get_or bs 0 0 → front (λ _. o) bs ≡ front width bs

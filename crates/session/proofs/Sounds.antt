@@ -1,9 +1,9 @@
 -- What a step leaves is sound, by the law of the book.
-use Rattle.std.proofs.Common.{◌≡◌, ℕ, true, [], ◌∷◌, Ok, Err, Result, sym, refl, ap, ◌∙◌, subst}
+use Rattle.std.proofs.Common.{◌≡◌, true, [], ◌∷◌, Ok, Err, Result, sym, refl, ap, ◌∙◌, subst}
 use mathlib.Core.Bool.{Bool-set}
 use mathlib.Core.Logic.{∥∥₁_elim, ∥∥₁_map}
 use Rattle.std.proofs.lemmas.Bool.{eqb-true, eq-eqb}
-use Rattle.net.specs.declared.net.Layer.{Layer}
+use Rattle.net.specs.declared.net.Origin.{Origin}
 use Rattle.net.specs.declared.net.NetFault.TheVariants.{WrongSize}
 use Rattle.net.specs.declared.net.Placed.{Placed}
 use Rattle.net.specs.Refusals.{◌unless◌, placed}
@@ -12,17 +12,18 @@ use Rattle.net.specs.Looks.{measured}
 use Rattle.net.specs.Qualities.{Qualities, Sound}
 use Rattle.net.proofs.Tables.{passed, ok_same, ok_not_err}
 use Rattle.theory.specs.Laws.{Kept}
+use Rattle.net.specs.declared.net.Position.{Position}
 use Rattle.session.specs.declared.faults.BookRefusal.{BookRefusal}
 use Rattle.session.specs.Faults.{with_place}
 
 -- A fault's place is no result.
-pub placed_ok : {X F : Type 0} (r : Result X F) (q : Result X (Placed F)) (l : Layer) (b n : ℕ) (x : X) → q ≡ placed r l b n → q ≡ Ok x → r ≡ Ok x
-placed_ok {X} (Ok y) q l b n x e h = ap (λ (z : X). Ok z) (ok_same (sym e ∙ h))
-placed_ok (Err f) q l b n x e h = absurd (ok_not_err (sym e ∙ h))
+pub placed_ok : {X F : Type 0} (r : Result X F) (q : Result X (Placed F)) (o : Origin) (x : X) → q ≡ placed r o → q ≡ Ok x → r ≡ Ok x
+placed_ok {X} (Ok y) q o x e h = ap (λ (z : X). Ok z) (ok_same (sym e ∙ h))
+placed_ok (Err f) q o x e h = absurd (ok_not_err (sym e ∙ h))
 
-pub with_place_ok : {X F : Type 0} (r : Result X F) (q : Result X (BookRefusal F)) (b n : ℕ) (x : X) → q ≡ with_place r b n → q ≡ Ok x → r ≡ Ok x
-with_place_ok {X} (Ok y) q b n x e h = ap (λ (z : X). Ok z) (ok_same (sym e ∙ h))
-with_place_ok (Err f) q b n x e h = absurd (ok_not_err (sym e ∙ h))
+pub with_place_ok : {X F : Type 0} (r : Result X F) (q : Result X (BookRefusal F)) (at : Position) (x : X) → q ≡ with_place r at → q ≡ Ok x → r ≡ Ok x
+with_place_ok {X} (Ok y) q at x e h = ap (λ (z : X). Ok z) (ok_same (sym e ∙ h))
+with_place_ok (Err f) q at x e h = absurd (ok_not_err (sym e ∙ h))
 
 pub measured_sized : (s : State) → measured s.sheet ≡ Ok tt → sized s ≡ true
 measured_sized s h = (passed (WrongSize unless sized s ∷ []) tt tt h).0.0

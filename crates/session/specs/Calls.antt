@@ -6,7 +6,8 @@ use Rattle.net.specs.Qualities.{Qualities}
 use Rattle.theory.specs.Nets.{asks_reach, asks_standstill, SameReach, SameStandstill}
 use Rattle.theory.specs.Laws.{net_of, Supports}
 use Rattle.session.specs.declared.faults.SessionFault.{SessionFault}
-use Rattle.session.specs.Feeds.{Meaning, proposed, step_length, fed}
+use Rattle.books.specs.Frames.{step_length}
+use Rattle.session.specs.Feeds.{Meaning, proposed, fed}
 
 -- The calls of a user.
 pub data Call : Type 0 where
@@ -32,7 +33,7 @@ if_taken bs (Err e) = []
 
 abbrev pub counted : {F : Type 0} → Result ℕ (SessionFault F) → ℕ
 counted (Ok n) = n
-counted (Err e) = e.count
+counted (Err e) = e.origin.count
 
 abbrev pub first_steps : {F : Type 0} → Meaning F → ℕ → List ℕ → List (List ℕ)
 first_steps m zero bs = []

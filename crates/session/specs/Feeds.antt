@@ -1,15 +1,13 @@
 -- What a propose, a feed and a look do, for lists of bytes of any length and sheets of any size. Of a book they use what its two
 -- calls mean, and nothing else.
-use Rattle.std.specs.Prelude.{◌≡◌, ℕ, zero, suc, ◌+◌, ◌≤◌, cond, List, [], ◌∷◌, length, take, drop, is_some, Ok, Err, Result, ◌==◌, nat_le, nat_lt, slice_index}
+use Rattle.std.specs.Prelude.{◌≡◌, ℕ, zero, suc, ◌+◌, ◌≤◌, cond, List, length, take, drop, Ok, Err, Result, ◌==◌}
 use Rattle.net.specs.declared.net.Look.{Look}
 use Rattle.net.specs.declared.net.NetFault.{NetFault}
 use Rattle.net.specs.declared.net.NetFault.TheVariants.{WrongSize}
-use Rattle.net.specs.Refusals.{Check, ◌unless◌, judged}
 use Rattle.net.specs.States.{State, sized}
 use Rattle.net.specs.Looks.{looked, measured}
 use Rattle.books.specs.declared.faults.Misfit.{Misfit}
-use Rattle.books.specs.declared.faults.Misfit.TheVariants.{Short, Unknown}
-use Rattle.books.specs.Frames.{Widths, width_or, framed}
+use Rattle.books.specs.Frames.{Widths, framed, front}
 use Rattle.session.specs.declared.faults.SessionFault.{SessionFault}
 use Rattle.session.specs.Faults.{net_refuses, bytes_misfit, book_refuses}
 
@@ -37,24 +35,6 @@ by_book (Err f) byte count = Err (book_refuses f byte count)
 -- A propose: the size of the sheet is asked first, then whether the bytes are one whole step, then the book.
 abbrev pub proposed : {F : Type 0} → Meaning F → State → List ℕ → Result State (SessionFault F)
 proposed m s bs = after_net (measured s.sheet) (after_bytes (framed m.width bs) (by_book (m.take_step s bs) 0 0))
-
--- The length of the step at the front of the bytes: the first is there, it is owned, and its operands are there.
-abbrev pub step_length : Widths → List ℕ → ℕ
-step_length width bs = width_or (width (slice_index bs 0)) + 1
-
-abbrev pub front_table : Widths → List ℕ → List (Check Misfit)
-front_table width bs =
-    Short unless nat_lt 0 (length bs)
-    ∷ Unknown unless is_some (width (slice_index bs 0))
-    ∷ Short unless nat_le (step_length width bs) (length bs)
-    ∷ []
-
-abbrev pub front : Widths → List ℕ → Result ℕ Misfit
-front width bs = judged (front_table width bs) (step_length width bs)
-
-abbrev pub Within : {F : Type 0} → Result ℕ F → ℕ → Type 0
-Within (Ok n) len = n ≤ len
-Within (Err e) len = Unit {0}
 
 -- One step of a feed: the next state, and how many bytes were used.
 pub record Step : Type 0 where
@@ -95,7 +75,7 @@ fed m s bs = cond (sized s) (fed_from m (length bs) s bs 0 0) (ended s (Err (net
 -- A refused step starts within the bytes, or at their end.
 abbrev pub PlaceWithin : {F : Type 0} → Result ℕ (SessionFault F) → ℕ → Type 0
 PlaceWithin (Ok n) len = Unit {0}
-PlaceWithin (Err e) len = e.byte ≤ len
+PlaceWithin (Err e) len = e.origin.byte ≤ len
 
 -- A look.
 abbrev pub by_net : {X F : Type 0} → Result X NetFault → Result X (SessionFault F)

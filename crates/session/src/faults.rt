@@ -3,10 +3,10 @@ ghost use Rattle.std.specs.Prelude.{◌≡◌, Result};
 ghost use Rattle.session.specs.Faults.{from_net, from_bytes, from_book, with_place, session_told};
 
 use books::faults::{Misfit, Numbered};
-use net::{Layer, NetFault, Placed, Told};
+use net::{Layer, NetFault, Origin, Placed, Position, Told};
 
 // The net refuses the call, the bytes are not what the call asks for, or the book refuses the step.
-#[derive(Drop)]
+#[derive(Clone, Copy, Debug, PartialEq, Eq, Drop)]
 pub enum Cause<F> {
     Net(NetFault),
     Bytes(Misfit),
@@ -14,7 +14,7 @@ pub enum Cause<F> {
 }
 
 // The fault of no book: a look asks none, and its refusals never hold it. No one outside can make it.
-#[derive(Clone, Copy)]
+#[derive(Clone, Copy, Debug, PartialEq, Eq)]
 pub struct NoBook(());
 
 impl Numbered for NoBook {
@@ -25,39 +25,27 @@ impl Numbered for NoBook {
     }
 }
 
-// A refused call: its cause, the layer that raised it, the byte where the refused step starts, and the count of the steps
-// before it.
-#[derive(Drop)]
+// A refused call: its cause, and where it arose.
+#[derive(Clone, Copy, Debug, PartialEq, Eq, Drop)]
 pub struct SessionFault<F> {
     pub cause: Cause<F>,
-    pub layer: Layer,
-    pub byte: usize,
-    pub count: usize,
+    pub origin: Origin,
 }
 
-// A book's fault with its place.
-#[derive(Drop)]
+// A book's fault, with the byte where the refused step starts and the count of the steps before it.
+#[derive(Clone, Copy, Debug, PartialEq, Eq, Drop)]
 pub struct BookRefusal<F> {
     pub fault: F,
-    pub byte: usize,
-    pub count: usize,
+    pub at: Position,
 }
 
 impl<F> From<Placed<NetFault>> for SessionFault<F> {
     ghost from_gives = { λ e r. r ≡ from_net e };
 
     fn from(e: Placed<NetFault>) -> SessionFault<F> {
-        let Placed {
-            fault,
-            layer,
-            byte,
-            count,
-        } = e;
         SessionFault {
-            cause: Cause::Net(fault),
-            layer,
-            byte,
-            count,
+            cause: Cause::Net(e.fault),
+            origin: e.origin,
         }
     }
 }
@@ -66,17 +54,9 @@ impl<F> From<Placed<Misfit>> for SessionFault<F> {
     ghost from_gives = { λ e r. r ≡ from_bytes e };
 
     fn from(e: Placed<Misfit>) -> SessionFault<F> {
-        let Placed {
-            fault,
-            layer,
-            byte,
-            count,
-        } = e;
         SessionFault {
-            cause: Cause::Bytes(fault),
-            layer,
-            byte,
-            count,
+            cause: Cause::Bytes(e.fault),
+            origin: e.origin,
         }
     }
 }
@@ -85,24 +65,18 @@ impl<F> From<BookRefusal<F>> for SessionFault<F> {
     ghost from_gives = { λ e r. r ≡ from_book e };
 
     fn from(e: BookRefusal<F>) -> SessionFault<F> {
-        let BookRefusal { fault, byte, count } = e;
         SessionFault {
-            cause: Cause::Book(fault),
-            layer: Layer::Book,
-            byte,
-            count,
+            cause: Cause::Book(e.fault),
+            origin: e.at.origin(Layer::Book),
         }
     }
 }
 
 // Adds the place to a book's fault.
-pub(crate) fn by_book<T, F>(r: Result<T, F>, byte: usize, count: usize) -> Result<T, BookRefusal<F>>
-    ensures { result ≡ with_place r byte count }
+pub(crate) fn by_book<T, F>(r: Result<T, F>, at: Position) -> Result<T, BookRefusal<F>>
+    ensures { result ≡ with_place r at }
 {
-    match r {
-        Ok(x) => Ok(x),
-        Err(fault) => Err(BookRefusal { fault, byte, count }),
-    }
+    r.map_err(|fault| BookRefusal { fault, at })
 }
 
 impl<F: Numbered> SessionFault<F> {
@@ -117,9 +91,7 @@ impl<F: Numbered> SessionFault<F> {
         };
         Told {
             number,
-            layer: self.layer,
-            byte: self.byte,
-            count: self.count,
+            origin: self.origin,
         }
     }
 }

@@ -6,36 +6,17 @@ ghost use Rattle.net.specs.States.{view, sized, Answered};
 ghost use Rattle.net.specs.Views.{drafted};
 ghost use Rattle.session.specs.Views.{opened};
 ghost use Rattle.session.specs.Faults.{IsBookless};
-ghost use Rattle.session.specs.Feeds.{meaning, front, Within, proposed, stepped, fed_from, fed, looked_at, StepAnswered, FeedAnswered, PlaceWithin};
+ghost use Rattle.session.specs.Feeds.{meaning, proposed, stepped, fed_from, fed, looked_at, StepAnswered, FeedAnswered, PlaceWithin};
 ghost use Rattle.session.specs.Calls.{Faithful};
 
 mod faults;
 mod session;
 
-use books::faults::Misfit;
-use books::{Book, byte_at, check_size, frame};
+use books::{Book, byte_at, frame, front};
 use faults::by_book;
 pub use faults::{BookRefusal, Cause, NoBook, SessionFault};
-use net::{Draft, Layer, Look, Net, at_place};
+use net::{Draft, Layer, Look, Net, Position, at_place};
 pub use session::Session;
-
-// The length of the step at the front of the bytes, if the book says this width of their first byte.
-fn front(width: Option<u8>, bytes: &[u8]) -> Result<usize, Misfit>
-    ensures value { result ≡ front (λ _. width) bytes.now }
-    ensures within { Within result (length bytes.now) }
-{
-    if bytes.len() == 0 {
-        return Err(Misfit::Short);
-    }
-    let Some(operands) = width else {
-        return Err(Misfit::Unknown);
-    };
-    let n = operands as usize + 1;
-    if bytes.len() < n {
-        return Err(Misfit::Short);
-    }
-    Ok(n)
-}
 
 impl<'a> Session<'a> {
     // Opens a session on the net of a draft.
@@ -51,14 +32,13 @@ impl<'a> Session<'a> {
     pub fn propose<B: Book>(&mut self, book: &B, bytes: &[u8]) -> Result<(), SessionFault<B::Fault>>
         ensures { Answered result (opened self.new) (opened self.old) (proposed (meaning B.Book.width_of B.Book.taken) (opened self.old) bytes.now) }
     {
-        at_place(check_size(&self.net), Layer::Net, 0, 0)?;
+        let at = Position::START;
+        at_place(self.net.check_size(), at.origin(Layer::Net))?;
         at_place(
             frame(book.width(byte_at(bytes, 0)), bytes),
-            Layer::Session,
-            0,
-            0,
+            at.origin(Layer::Session),
         )?;
-        by_book(book.take(&mut self.net, bytes), 0, 0)?;
+        by_book(book.take(&mut self.net, bytes), at)?;
         Ok(())
     }
 
@@ -67,21 +47,18 @@ impl<'a> Session<'a> {
         &mut self,
         book: &B,
         bytes: &[u8],
-        byte: usize,
-        count: usize,
+        at: Position,
     ) -> Result<usize, SessionFault<B::Fault>>
         requires { sized (opened self.old) ≡ true }
-        ensures exact { StepAnswered result (opened self.new) (opened self.old) (stepped (meaning B.Book.width_of B.Book.taken) (opened self.old) bytes.now byte count) }
+        ensures exact { StepAnswered result (opened self.new) (opened self.old) (stepped (meaning B.Book.width_of B.Book.taken) (opened self.old) bytes.now at.byte at.count) }
         ensures size { sized (opened self.new) ≡ true }
     {
-        let n = at_place(
+        let length = at_place(
             front(book.width(byte_at(bytes, 0)), bytes),
-            Layer::Session,
-            byte,
-            count,
+            at.origin(Layer::Session),
         )?;
-        by_book(book.take(&mut self.net, &bytes[..n]), byte, count)?;
-        Ok(n)
+        by_book(book.take(&mut self.net, &bytes[..length]), at)?;
+        Ok(length)
     }
 
     // Takes steps in a row until the bytes end or one is refused, and answers the count.
@@ -93,14 +70,14 @@ impl<'a> Session<'a> {
         requires { sized (opened self.old) ≡ true }
         ensures { FeedAnswered result (opened self.new) (fed_from (meaning B.Book.width_of B.Book.taken) (length bytes.now) (opened self.old) bytes.now 0 0) }
     {
-        let mut at = 0;
-        let mut count = 0;
-        while at < bytes.len() {
-            let used = self.step(book, &bytes[at..], at, count)?;
-            at += used;
-            count += 1;
+        let mut at = Position::START;
+        // Each turn goes on by the length of its step, which no iterator over the bytes knows.
+        while at.byte < bytes.len() {
+            let used = self.step(book, &bytes[at.byte..], at)?;
+            at.byte += used;
+            at.count += 1;
         }
-        Ok(count)
+        Ok(at.count)
     }
 
     // Takes steps in a row until the bytes end or one is refused. The answer or the fault counts the steps taken, which stay taken.
@@ -109,7 +86,7 @@ impl<'a> Session<'a> {
         ensures within { PlaceWithin result (length bytes.now) }
         ensures faithful { Faithful (meaning B.Book.width_of B.Book.taken) }
     {
-        at_place(check_size(&self.net), Layer::Net, 0, 0)?;
+        at_place(self.net.check_size(), Position::START.origin(Layer::Net))?;
         self.take_steps(book, bytes)
     }
 
@@ -125,7 +102,7 @@ impl<'a> Session<'a> {
         ensures exact { result ≡ looked_at (opened self.now) at }
         ensures bookless { IfErr result (λ f. IsBookless f.cause) }
     {
-        let number = at_place(self.net.look(at), Layer::Net, 0, 0)?;
+        let number = at_place(self.net.look(at), Position::START.origin(Layer::Net))?;
         Ok(number)
     }
 

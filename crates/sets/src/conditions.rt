@@ -1,173 +1,112 @@
-// The conditions of the second house book's rules, of one place or one transition each. All use the set out of the step's own bytes.
-ghost use Rattle.std.specs.Prelude.{◌≡◌, ℕ, Bool, not, ◌&&◌, nat_eq, nat_le, nat_lt};
-ghost use Rattle.net.specs.States.{stands, in_support, mark, take, put};
-ghost use Rattle.theory.specs.Tests.{◌⇒◌, member, takes_from?, puts_into?, outside, falls?};
+// The conditions of the second house book's steps, each by the name of its definition. All use the set out of the step's own bytes.
+ghost use Rattle.std.specs.Prelude.{◌≡◌, ℕ, Bool, not};
+ghost use Rattle.net.specs.States.{view};
+ghost use Rattle.theory.specs.Tests.{member, takes_from?, puts_into?, siphon?, dry?, outside, falls?, sufficient?, holds_support?, members_stand?, has_member?};
 
 use checks::{
-    PlaceTest, TransitionTest, every_place, is_member, mark_of, put_of, some_place, stands_at,
-    supports_at, take_of,
+    Test, Transition, is_member, mark_of, places, put_of, stands_at, supports_at, take_of,
+    transitions,
 };
 use net::Net;
 
-// Is the place in the set?
-#[derive(Drop)]
-pub struct Member<'a> {
-    pub set: &'a [u8; 8],
+// Does t take from the set? This and the next two are three functions and not one: with closures for the places and the weights, the
+// contract would be longer than all three.
+#[tactic(auto, unfolding(theory::specs::Tests::some))]
+fn takes_from(net: &Net<'_>, set: &[u8; 8], t: u8) -> bool
+    ensures { result ≡ takes_from? (view net.now) (member set.now) t }
+{
+    places().any(|p| is_member(set, p) && take_of(net, t, p) > 0)
 }
 
-impl<'a> PlaceTest for Member<'a> {
-    ghost holds = { λ x s p. member x.set.now p };
-
-    fn test(&self, _net: &Net<'_>, p: u8) -> bool {
-        is_member(self.set, p)
-    }
+// Does t put into the set?
+#[tactic(auto, unfolding(theory::specs::Tests::some))]
+fn puts_into(net: &Net<'_>, set: &[u8; 8], t: u8) -> bool
+    ensures { result ≡ puts_into? (view net.now) (member set.now) t }
+{
+    places().any(|p| is_member(set, p) && put_of(net, t, p) > 0)
 }
 
-// Does the place stand, if it is in the set?
-#[derive(Drop)]
-pub struct MemberStands<'a> {
-    pub set: &'a [u8; 8],
+// Does t take from outside the set?
+#[tactic(auto, unfolding(theory::specs::Tests::some))]
+fn takes_outside(net: &Net<'_>, set: &[u8; 8], t: u8) -> bool
+    ensures { result ≡ takes_from? (view net.now) (outside (member set.now)) t }
+{
+    places().any(|p| !is_member(set, p) && take_of(net, t, p) > 0)
 }
 
-impl<'a> PlaceTest for MemberStands<'a> {
-    ghost holds = { λ x s p. member x.set.now p ⇒ stands s p };
-
-    fn test(&self, net: &Net<'_>, p: u8) -> bool {
-        !is_member(self.set, p) || stands_at(net, p)
-    }
+// Do all places of the set stand?
+#[tactic(auto, unfolding(theory::specs::Tests::every))]
+pub fn members_stand(net: &Net<'_>, set: &[u8; 8]) -> bool
+    ensures { result ≡ members_stand? (view net.now) (member set.now) }
+{
+    places().all(|p| !is_member(set, p) || stands_at(net, p))
 }
 
-// Does t take from the place, and is it in the set?
-#[derive(Drop)]
-pub struct TakesHere<'a> {
-    pub set: &'a [u8; 8],
-    pub t: u8,
+// Is there a place in the set?
+#[tactic(auto, unfolding(theory::specs::Tests::some))]
+pub fn has_member(set: &[u8; 8]) -> bool
+    ensures { result ≡ has_member? (member set.now) }
+{
+    places().any(|p| is_member(set, p))
 }
 
-impl<'a> PlaceTest for TakesHere<'a> {
-    ghost holds = { λ x s p. member x.set.now p && nat_lt 0 (take s x.t p) };
-
-    fn test(&self, net: &Net<'_>, p: u8) -> bool {
-        is_member(self.set, p) && take_of(net, self.t, p) > 0
-    }
+// Does every transition that puts into the set take from it?
+#[tactic(auto, unfolding(theory::specs::Tests::every))]
+pub fn is_siphon(net: &Net<'_>, set: &[u8; 8]) -> bool
+    ensures { result ≡ siphon? (view net.now) (member set.now) }
+{
+    transitions(net).all(|t| !puts_into(net, set, t) || takes_from(net, set, t))
 }
 
-// Does t put into the place, and is it in the set?
-#[derive(Drop)]
-pub struct PutsHere<'a> {
-    pub set: &'a [u8; 8],
-    pub t: u8,
+// Is the mark of each place of the set 0?
+#[tactic(auto, unfolding(theory::specs::Tests::every))]
+pub fn is_dry(net: &Net<'_>, set: &[u8; 8]) -> bool
+    ensures { result ≡ dry? (view net.now) (member set.now) }
+{
+    places().all(|p| !is_member(set, p) || mark_of(net, p) == 0)
 }
 
-impl<'a> PlaceTest for PutsHere<'a> {
-    ghost holds = { λ x s p. member x.set.now p && nat_lt 0 (put s x.t p) };
-
-    fn test(&self, net: &Net<'_>, p: u8) -> bool {
-        is_member(self.set, p) && put_of(net, self.t, p) > 0
-    }
+// Is every place of the support in the set?
+#[tactic(auto, unfolding(theory::specs::Tests::every))]
+pub fn holds_support(net: &Net<'_>, set: &[u8; 8]) -> bool
+    ensures { result ≡ holds_support? (view net.now) (member set.now) }
+{
+    places().all(|p| !supports_at(net, p) || is_member(set, p))
 }
 
-// Does the transition take from the set, if it puts into it?
-#[derive(Drop)]
-pub struct Siphon<'a> {
-    pub set: &'a [u8; 8],
+// Has t no positive effect in the set, and none at all on the support?
+#[tactic(auto, unfolding(theory::specs::Tests::every))]
+fn falls(net: &Net<'_>, set: &[u8; 8], t: u8) -> bool
+    ensures { result ≡ falls? (view net.now) (member set.now) t }
+{
+    places().all(|p| {
+        let taken = take_of(net, t, p);
+        let given = put_of(net, t, p);
+        (!is_member(set, p) || given <= taken) && (!supports_at(net, p) || given == taken)
+    })
 }
 
-impl<'a> TransitionTest for Siphon<'a> {
-    ghost holds = { λ x s t. puts_into? s (member x.set.now) t ⇒ takes_from? s (member x.set.now) t };
-
-    fn test(&self, net: &Net<'_>, t: u8) -> bool {
-        !some_place(net, &PutsHere { set: self.set, t })
-            || some_place(net, &TakesHere { set: self.set, t })
-    }
+// Does every transition that takes from outside the set fall?
+#[tactic(auto, unfolding(theory::specs::Tests::every))]
+pub fn is_sufficient(net: &Net<'_>, set: &[u8; 8]) -> bool
+    ensures { result ≡ sufficient? (view net.now) (member set.now) }
+{
+    transitions(net).all(|t| !takes_outside(net, set, t) || falls(net, set, t))
 }
 
-// Is the mark of the place 0, if it is in the set?
-#[derive(Drop)]
-pub struct Dry<'a> {
-    pub set: &'a [u8; 8],
-}
-
-impl<'a> PlaceTest for Dry<'a> {
-    ghost holds = { λ x s p. member x.set.now p ⇒ nat_eq (mark s p) 0 };
-
-    fn test(&self, net: &Net<'_>, p: u8) -> bool {
-        !is_member(self.set, p) || mark_of(net, p) == 0
-    }
-}
-
-// Does the transition take nothing from the set?
+// Does the transition take nothing from the set? This test and the next are values, since a rewrite is handed them.
 #[derive(Drop)]
 pub struct Spares<'a> {
     pub set: &'a [u8; 8],
 }
 
-impl<'a> TransitionTest for Spares<'a> {
+impl Test for Spares<'_> {
+    type Of = Transition;
+
     ghost holds = { λ x s t. not (takes_from? s (member x.set.now) t) };
 
     fn test(&self, net: &Net<'_>, t: u8) -> bool {
-        !some_place(net, &TakesHere { set: self.set, t })
-    }
-}
-
-// Is the place in the set, if it is in the support?
-#[derive(Drop)]
-pub struct HoldsSupport<'a> {
-    pub set: &'a [u8; 8],
-}
-
-impl<'a> PlaceTest for HoldsSupport<'a> {
-    ghost holds = { λ x s p. in_support s p ⇒ member x.set.now p };
-
-    fn test(&self, net: &Net<'_>, p: u8) -> bool {
-        !supports_at(net, p) || is_member(self.set, p)
-    }
-}
-
-// Does t take from the place, and is it outside the set?
-#[derive(Drop)]
-pub struct TakesOutside<'a> {
-    pub set: &'a [u8; 8],
-    pub t: u8,
-}
-
-impl<'a> PlaceTest for TakesOutside<'a> {
-    ghost holds = { λ x s p. outside (member x.set.now) p && nat_lt 0 (take s x.t p) };
-
-    fn test(&self, net: &Net<'_>, p: u8) -> bool {
-        !is_member(self.set, p) && take_of(net, self.t, p) > 0
-    }
-}
-
-// Has t no positive effect at the place, if it is in the set, and none at all, if it is in the support?
-#[derive(Drop)]
-pub struct Falls<'a> {
-    pub set: &'a [u8; 8],
-    pub t: u8,
-}
-
-impl<'a> PlaceTest for Falls<'a> {
-    ghost holds = { λ x s p. (member x.set.now p ⇒ nat_le (put s x.t p) (take s x.t p)) && (in_support s p ⇒ nat_eq (put s x.t p) (take s x.t p)) };
-
-    fn test(&self, net: &Net<'_>, p: u8) -> bool {
-        let taken = take_of(net, self.t, p);
-        let given = put_of(net, self.t, p);
-        (!is_member(self.set, p) || given <= taken) && (!supports_at(net, p) || given == taken)
-    }
-}
-
-// Has the transition no positive effect in the set and none on the support, if it takes from outside the set?
-#[derive(Drop)]
-pub struct Sufficient<'a> {
-    pub set: &'a [u8; 8],
-}
-
-impl<'a> TransitionTest for Sufficient<'a> {
-    ghost holds = { λ x s t. takes_from? s (outside (member x.set.now)) t ⇒ falls? s (member x.set.now) t };
-
-    fn test(&self, net: &Net<'_>, t: u8) -> bool {
-        !some_place(net, &TakesOutside { set: self.set, t })
-            || every_place(net, &Falls { set: self.set, t })
+        !takes_from(net, self.set, t)
     }
 }
 
@@ -177,10 +116,12 @@ pub struct StaysInside<'a> {
     pub set: &'a [u8; 8],
 }
 
-impl<'a> TransitionTest for StaysInside<'a> {
+impl Test for StaysInside<'_> {
+    type Of = Transition;
+
     ghost holds = { λ x s t. not (takes_from? s (outside (member x.set.now)) t) };
 
     fn test(&self, net: &Net<'_>, t: u8) -> bool {
-        !some_place(net, &TakesOutside { set: self.set, t })
+        !takes_outside(net, self.set, t)
     }
 }

@@ -2,29 +2,29 @@
 #![tactic(auto)]
 
 ghost use Rattle.std.specs.Prelude.{◌≡◌, ℕ, true, length, refl};
-ghost use Rattle.net.specs.Refusals.{judged};
-ghost use Rattle.net.specs.States.{view, sized, Answered};
-ghost use Rattle.books.specs.House.{plain, own_judged};
-ghost use Rattle.sets.specs.Faults.{from_bytes, from_step, from_net, set_number};
+ghost use Rattle.net.specs.Refusals.{judged, Passes};
+ghost use Rattle.net.specs.Looks.{sheet_checks};
+ghost use Rattle.net.specs.States.{view, Answered};
+ghost use Rattle.books.specs.Faults.{book_number, from_net, from_bytes, from_step};
+ghost use Rattle.books.specs.House.{plain, owns, own_checked};
 ghost use Rattle.sets.specs.Sets.{set_width, set_step, set_taken};
-ghost use Rattle.theory.specs.Rewrites.{dropping_takers, limiting};
-ghost use Rattle.theory.specs.Steps.{table, step, drop_siphon, limit_to};
+ghost use Rattle.theory.specs.Rewrites.{keeping, limiting};
+ghost use Rattle.rewrites.specs.Rows.{limited_to};
+ghost use Rattle.theory.specs.Steps.{refusal_number, table, next, drop_siphon, limit_to};
 ghost use Rattle.theory.specs.Tests.{member};
 ghost use Rattle.books.proofs.Housing.{house_keeps, house_refuses};
 ghost use Rattle.std.proofs.Common.{rules};
 
 mod conditions;
-mod faults;
 
-use books::faults::Misfit;
+use books::faults::{BookFault, Misfit};
 use books::step::Step;
-use books::{Book, byte_at, check_size, frame};
-use checks::{every_place, every_transition, is_reach_only, some_place};
+use books::{Book, byte_at, frame};
+use checks::is_reach_only;
 use conditions::{
-    Dry, HoldsSupport, Member, MemberStands, Siphon, Spares, StaysInside, Sufficient,
+    Spares, StaysInside, has_member, holds_support, is_dry, is_siphon, is_sufficient, members_stand,
 };
-pub use faults::SetFault;
-use net::Net;
+use net::{Net, NetFault};
 use rewrites::{keep_where, limit_places};
 use theory::Refusal;
 
@@ -32,16 +32,16 @@ use theory::Refusal;
 fn check_siphon(net: &Net<'_>, set: &[u8; 8]) -> Result<(), Refusal>
     ensures { result ≡ judged (table (view net.now) (drop_siphon set.now)) tt }
 {
-    if !every_place(net, &MemberStands { set }) {
+    if !members_stand(net, set) {
         return Err(Refusal::NoPlace);
     }
-    if !some_place(net, &Member { set }) {
+    if !has_member(set) {
         return Err(Refusal::Nothing);
     }
-    if !every_transition(net, &Siphon { set }) {
+    if !is_siphon(net, set) {
         return Err(Refusal::Arcs);
     }
-    if !every_place(net, &Dry { set }) {
+    if !is_dry(net, set) {
         return Err(Refusal::Marks);
     }
     Ok(())
@@ -54,53 +54,24 @@ fn check_limit(net: &Net<'_>, set: &[u8; 8]) -> Result<(), Refusal>
     if !is_reach_only(net) {
         return Err(Refusal::NotServed);
     }
-    if !every_place(net, &MemberStands { set }) {
+    if !members_stand(net, set) {
         return Err(Refusal::NoPlace);
     }
-    if !every_place(net, &HoldsSupport { set }) {
+    if !holds_support(net, set) {
         return Err(Refusal::Support);
     }
-    if !every_transition(net, &Sufficient { set }) {
+    if !is_sufficient(net, set) {
         return Err(Refusal::Arcs);
     }
     Ok(())
 }
 
-// Drops the transitions that take from a set.
-fn drop_takers(net: &mut Net<'_>, set: &[u8; 8])
-    requires { sized (view net.old) ≡ true }
-    ensures { view net.new ≡ dropping_takers (member set.now) (view net.old) }
-{
-    let _ = keep_where(net, &Spares { set });
-}
-
 // Drops the transitions that take from outside a set, and removes the places outside it.
-fn limit_net(net: &mut Net<'_>, set: &[u8; 8])
-    requires { sized (view net.old) ≡ true }
-    ensures { view net.new ≡ limiting (member set.now) (view net.old) }
+fn limit_net(net: &mut Net<'_>, set: &[u8; 8]) -> Result<(), NetFault>
+    ensures { Answered result (view net.new) (view net.old) (judged (sheet_checks (view net.old)) (limiting (member set.now) (view net.old))) }
 {
-    let _ = keep_where(net, &StaysInside { set });
-    let _ = limit_places(net, set);
-}
-
-// Drops what takes from a dry siphon, if the step's conditions hold.
-fn take_siphon(net: &mut Net<'_>, set: &[u8; 8]) -> Result<(), Refusal>
-    requires { sized (view net.old) ≡ true }
-    ensures { Answered result (view net.new) (view net.old) (step (view net.old) (drop_siphon set.now)) }
-{
-    check_siphon(net, set)?;
-    drop_takers(net, set);
-    Ok(())
-}
-
-// Limits the net to a set of places, if the step's conditions hold.
-fn take_limit(net: &mut Net<'_>, set: &[u8; 8]) -> Result<(), Refusal>
-    requires { sized (view net.old) ≡ true }
-    ensures { Answered result (view net.new) (view net.old) (step (view net.old) (limit_to set.now)) }
-{
-    check_limit(net, set)?;
-    limit_net(net, set);
-    Ok(())
+    keep_where(net, &StaysInside { set })?;
+    limit_places(net, set)
 }
 
 // The operand width for a first byte that this book owns.
@@ -113,34 +84,51 @@ fn set_width(first: u8) -> Option<u8>
     }
 }
 
-// The step in the nine bytes of a whole step. It borrows the eight bytes of its set.
+// The step in the nine bytes of a whole step. It borrows the eight bytes of its set. Its first byte is a number here and in the
+// widths: a kind between byte and step would name each step once more.
 fn decode<'a>(bytes: &'a [u8]) -> Step<'a>
     requires { length bytes.now ≡ 9 }
     ensures { plain result ≡ set_step bytes.now }
 {
-    let set = bytes[1..9].first_chunk::<8>().unwrap();
+    let set = bytes[1..].first_chunk().unwrap();
     match bytes[0] {
         0x28 => Step::DropSiphon(set),
         _ => Step::LimitTo(set),
     }
 }
 
-// Judges and takes a decoded step of this book; one of another book is unknown here.
-fn apply(net: &mut Net<'_>, step: Step<'_>) -> Result<(), SetFault>
-    requires { sized (view net.old) ≡ true }
-    ensures { Answered result (view net.new) (view net.old) (own_judged from_bytes from_step set_width (view net.old) (plain step.entry)) }
+// The questions of a decoded step of this book; one of another book is unknown here.
+fn check(net: &Net<'_>, step: Step<'_>) -> Result<(), SetFault>
+    ensures { result ≡ own_checked from_bytes from_step set_width (view net.now) (plain step.entry) }
 {
     match step {
-        Step::DropSiphon(set) => take_siphon(net, set)?,
-        Step::LimitTo(set) => take_limit(net, set)?,
-        _ => return Err(SetFault::Bytes(Misfit::Unknown)),
+        Step::DropSiphon(set) => check_siphon(net, set)?,
+        Step::LimitTo(set) => check_limit(net, set)?,
+        _ => return Err(BookFault::Bytes(Misfit::Unknown)),
     }
     Ok(())
 }
 
+// Takes a step of this book whose questions have passed.
+fn rewrite(net: &mut Net<'_>, step: Step<'_>) -> Result<(), NetFault>
+    requires own { owns set_width (plain step) ≡ true }
+    requires passes { Passes (table (view net.old) (plain step)) }
+    ensures { Answered result (view net.new) (view net.old) (judged (sheet_checks (view net.old)) (next (view net.old) (plain step.entry))) }
+{
+    match step {
+        Step::DropSiphon(set) => keep_where(net, &Spares { set }),
+        Step::LimitTo(set) => limit_net(net, set),
+        _ => Ok(()),
+    }
+}
+
 // The second house book.
-#[derive(Clone, Copy)]
+// It implements `Book` itself: one impl for all four would need a public trait whose calls ask something of their caller.
+#[derive(Clone, Copy, Debug, PartialEq, Eq)]
 pub struct Sets;
+
+// Why this book, which owns the bytes from 28, refuses a step.
+pub type SetFault = BookFault<Refusal, 0x28>;
 
 impl Book for Sets {
     type Fault = SetFault;
@@ -153,15 +141,18 @@ impl Book for Sets {
 
     ghost narrow = { Prim.search rules };
 
-    ghost refuses = { house_refuses from_net from_bytes from_step set_width set_step set_number (λ e. refl) };
+    ghost refuses = { house_refuses from_net from_bytes from_step set_width set_step (book_number refusal_number) (λ e. refl) };
 
     fn width(&self, first: u8) -> Option<u8> {
         set_width(first)
     }
 
     fn take(&self, net: &mut Net<'_>, step: &[u8]) -> Result<(), SetFault> {
-        check_size(net)?;
+        net.check_size()?;
         frame(set_width(byte_at(step, 0)), step)?;
-        apply(net, decode(step))
+        let step = decode(step);
+        check(net, step)?;
+        rewrite(net, step)?;
+        Ok(())
     }
 }

@@ -1,12 +1,11 @@
 -- A reading uses no more bytes than there are.
-use Rattle.std.proofs.Common.{◌≡◌, ℕ, zero, suc, ◌+◌, ◌-◌, ◌≤◌, List, length, drop, Ok, Err, Result, refl, ap, arith, length-drop}
-use Rattle.net.specs.declared.net.NetFault.{NetFault}
+use Rattle.std.proofs.Common.{◌≡◌, ℕ, zero, suc, ◌+◌, ◌-◌, ◌≤◌, List, length, drop, Ok, Err, Result, refl, arith, length-drop}
 use Rattle.net.specs.States.{State, empty}
-use Rattle.net.proofs.Tables.{ok_same, ok_not_err}
+use Rattle.net.proofs.Tables.{ok_not_err}
 use Rattle.stream.specs.declared.command.Command.{Command}
 use Rattle.stream.specs.declared.command.Command.TheVariants.{Place, Transition, ArcIn, ArcOut, End}
 use Rattle.stream.specs.declared.faults.Cause.{Cause}
-use Rattle.stream.specs.Streams.{Reading, reading, read_on, goes_on, after_step, with_command, with_state, decoded, applied, size}
+use Rattle.stream.specs.Streams.{Reading, reading, read_on, goes_on, after_step, with_command, decoded, size}
 use Rattle.stream.proofs.Filling.{decoded_size}
 
 abbrev Before : ℕ → Reading → Type 0
@@ -21,16 +20,11 @@ module _ (fuel : ℕ) (bs : List ℕ) (byte count : ℕ) (r : Reading) (rest : B
   goes_on_used t Transition k h = behind t 1 k h
   goes_on_used t (ArcIn u p w) k h = behind t 5 k h
   goes_on_used t (ArcOut u p w) k h = behind t 5 k h
-  goes_on_used t (End q) k h = let i : byte + 2 ≡ r.used = ap (λ (x : Reading). x.used) (ok_same h) in omega arith
-
-  applied_used : (c : Command) → size c ≤ length bs → (a : Result State NetFault) → after_step (read_on fuel) bs byte count (with_state c byte count a) ≡ Ok r
-      → r.used ≤ byte + length bs
-  applied_used c k (Ok t) h = goes_on_used t c k h
-  applied_used c k (Err e) h = absurd (ok_not_err h)
+  goes_on_used t (End q) k h = grind arith
 
   step_used : (s : State) (d : Result Command Cause) → decoded bs ≡ d → after_step (read_on fuel) bs byte count (with_command s byte count d) ≡ Ok r
       → r.used ≤ byte + length bs
-  step_used s (Ok c) e h = applied_used c (decoded_size bs c e).1 (applied s c) h
+  step_used s (Ok c) e h = let k = (decoded_size bs c e).1 in grind (arith, goes_on_used)
   step_used s (Err f) e h = absurd (ok_not_err h)
 
 read_on_used : (fuel : ℕ) (r : Reading) → Before fuel r

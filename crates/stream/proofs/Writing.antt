@@ -1,35 +1,23 @@
 -- What is written is read.
-use Rattle.std.proofs.Common.{◌≡◌, ℕ, zero, suc, ◌+◌, ◌*◌, ◌/◌, ◌%◌, ◌<◌, ◌≤◌, List, [], ◌∷◌, ◌++◌, length, drop, Ok, Err, Result, refl, ap, ◌∙◌, arith, length-append}
+use Rattle.std.proofs.Common.{◌≡◌, ℕ, zero, suc, ◌+◌, ◌<◌, ◌≤◌, List, [], ◌∷◌, ◌++◌, length, drop, Ok, Err, Result, refl, ap, ◌∙◌, arith, length-append}
 use Rattle.std.proofs.lemmas.List.{append_assoc}
-use Rattle.std.proofs.lemmas.Bool.{lt-ltb, le-leb}
 use Rattle.net.specs.declared.net.NetFault.{NetFault}
-use Rattle.net.specs.Refusals.{Passes}
 use Rattle.net.specs.States.{State, empty}
 use Rattle.net.specs.Drafts.{question_told}
-use Rattle.net.proofs.Tables.{passing}
 use Rattle.stream.specs.declared.command.Command.{Command}
 use Rattle.stream.specs.declared.command.Command.TheVariants.{Place, Transition, ArcIn, ArcOut, End}
 use Rattle.stream.specs.declared.faults.Cause.{Cause}
 use Rattle.stream.specs.declared.faults.ReadFault.{ReadFault}
-use Rattle.stream.specs.Streams.{command, command_table, decoded, size, applied, with_state, with_command, Reading, after_step, read_on}
+use Rattle.stream.specs.Streams.{decoded, size, applied, with_state, with_command, Reading, after_step, read_on}
 use Rattle.stream.specs.Written.{encoded, written, Plain, AllPlain, ended, done_next, done, ReadsWhatIsWritten}
 use Rattle.stream.proofs.Filling.{behind}
 
 -- A written command is decoded.
-whole : (bs : List ℕ) (c : Command) → command bs ≡ c → Passes (command_table bs) → decoded bs ≡ Ok c
-whole bs c e p = passing (command_table bs) (command bs) p ∙ ap (λ (x : Command). Ok x) e
-
 pub decodes : (c : Command) (l : List ℕ) → Plain c → decoded (encoded c ++ l) ≡ Ok c
-decodes (Place m f) l p =
-    let e : 65536 * (256 * (m / 65536 / 256) + (m / 65536) % 256) + (256 * ((m % 65536) / 256) + (m % 65536) % 256) ≡ m = omega arith in
-    whole (encoded (Place m f) ++ l) (Place m f) (ap (λ (n : ℕ). Place n f) e) (lt-ltb _ _ (omega arith), (refl, (le-leb _ _ (omega arith), tt)))
-decodes Transition l p = whole (encoded Transition ++ l) Transition refl (lt-ltb _ _ (omega arith), (refl, (le-leb _ _ (omega arith), tt)))
-decodes (ArcIn t q w) l p =
-    let e : 256 * (w / 256) + w % 256 ≡ w = omega arith in
-    whole (encoded (ArcIn t q w) ++ l) (ArcIn t q w) (ap (λ (n : ℕ). ArcIn t q n) e) (lt-ltb _ _ (omega arith), (refl, (le-leb _ _ (omega arith), tt)))
-decodes (ArcOut t q w) l p =
-    let e : 256 * (w / 256) + w % 256 ≡ w = omega arith in
-    whole (encoded (ArcOut t q w) ++ l) (ArcOut t q w) (ap (λ (n : ℕ). ArcOut t q n) e) (lt-ltb _ _ (omega arith), (refl, (le-leb _ _ (omega arith), tt)))
+decodes (Place m f) l p = grind arith
+decodes Transition l p = grind arith
+decodes (ArcIn t q w) l p = grind arith
+decodes (ArcOut t q w) l p = grind arith
 decodes (End q) l p = absurd p
 
 -- It is as long as its size says, and what follows it is behind it.
@@ -48,10 +36,10 @@ rest_of (ArcOut t p w) l = refl
 rest_of (End q) l = refl
 
 not_end : (c : Command) → Plain c → (q : ℕ) → c ≡ End q → ⊥
-not_end (Place m f) p q e = let z : ◌≡◌ {A = ℕ} 0 1 = cc in omega arith
-not_end Transition p q e = let z : ◌≡◌ {A = ℕ} 0 1 = cc in omega arith
-not_end (ArcIn t r w) p q e = let z : ◌≡◌ {A = ℕ} 0 1 = cc in omega arith
-not_end (ArcOut t r w) p q e = let z : ◌≡◌ {A = ℕ} 0 1 = cc in omega arith
+not_end (Place m f) p q e = cc
+not_end Transition p q e = cc
+not_end (ArcIn t r w) p q e = cc
+not_end (ArcOut t r w) p q e = cc
 not_end (End r) p q e = p
 
 -- One written command.
@@ -75,9 +63,12 @@ end_read : (fuel : ℕ) (s : State) (q : ℕ) (rest : List ℕ) (byte count : �
     → read_on (suc fuel) s (0x1f ∷ q ∷ rest) byte count ≡ ended byte count (question_told s q)
 end_read fuel s q rest byte count =
     ap (λ (d : Result Command Cause). after_step (read_on fuel) (0x1f ∷ q ∷ rest) byte count (with_command s byte count d))
-    (whole (0x1f ∷ q ∷ rest) (End q) refl (lt-ltb _ _ (omega arith), (refl, (le-leb _ _ (omega arith), tt))))
+    ended_there
     ∙ go (question_told s q)
   where
+    ended_there : decoded (0x1f ∷ q ∷ rest) ≡ Ok (End q)
+    ended_there = grind arith
+
     go : (r : Result State NetFault) → after_step (read_on fuel) (0x1f ∷ q ∷ rest) byte count (with_state (End q) byte count r) ≡ ended byte count r
     go (Ok t) = refl
     go (Err e) = refl
@@ -87,24 +78,20 @@ next_same : (f g : State → Result Reading ReadFault) (byte count : ℕ) (r : R
 next_same f g byte count (Ok t) h = h t
 next_same f g byte count (Err e) h = refl
 
-some_bytes : (c : Command) → Plain c → 0 < length (encoded c)
-some_bytes (Place m f) p = omega arith
-some_bytes Transition p = omega arith
-some_bytes (ArcIn t q w) p = omega arith
-some_bytes (ArcOut t q w) p = omega arith
-some_bytes (End q) p = absurd p
+some_bytes : (c : Command) → 0 < length (encoded c)
+some_bytes c = grind arith
 
 reads : (cs : List Command) (fuel : ℕ) (s : State) (q : ℕ) (rest : List ℕ) (byte count : ℕ) → AllPlain cs
     → length (written cs ++ (0x1f ∷ q ∷ rest)) ≤ fuel → read_on fuel s (written cs ++ (0x1f ∷ q ∷ rest)) byte count ≡ done s cs q byte count
 reads [] zero s q rest byte count p h = absurd (omega arith)
 reads [] (suc fuel) s q rest byte count p h = end_read fuel s q rest byte count
 reads (c ∷ cs) zero s q rest byte count p h =
-    let b = some_bytes c p.0 in
+    let b = some_bytes c in
     absurd (omega (arith, length-append (encoded c ++ written cs) (0x1f ∷ q ∷ rest), length-append (encoded c) (written cs)))
 reads (c ∷ cs) (suc fuel) s q rest byte count p h =
     let l = written cs ++ (0x1f ∷ q ∷ rest) in
     let a : (encoded c ++ written cs) ++ (0x1f ∷ q ∷ rest) ≡ encoded c ++ l = append_assoc (encoded c) (written cs) (0x1f ∷ q ∷ rest) in
-    let b = some_bytes c p.0 in
+    let b = some_bytes c in
     let small : length l ≤ fuel = omega (arith, ap length a, length-append (encoded c) l) in
     ap (λ (k : List ℕ). read_on (suc fuel) s k byte count) a
     ∙ one_read fuel s c l byte count p.0

@@ -8,6 +8,8 @@ use Rattle.net.specs.States.{State, sized, empty}
 use Rattle.net.specs.Drafts.{place_added, transition_added, arc_in_added, arc_out_added, question_told}
 use Rattle.stream.specs.declared.command.Command.{Command}
 use Rattle.stream.specs.declared.command.Command.TheVariants.{Place, Transition, ArcIn, ArcOut, End}
+use Rattle.stream.specs.declared.command.Opcode.{Opcode}
+use Rattle.stream.specs.declared.command.Opcode.TheVariants as kind
 use Rattle.stream.specs.declared.faults.Cause.{Cause}
 use Rattle.stream.specs.declared.faults.Cause.TheVariants.{Short, Unknown, Net}
 use Rattle.stream.specs.declared.faults.ReadFault.{ReadFault}
@@ -22,6 +24,28 @@ two bs i = 256 * one bs i + one bs (i + 1)
 
 abbrev pub four : List ℕ → ℕ → ℕ
 four bs i = 65536 * two bs i + two bs (i + 2)
+
+-- The kind of a command, by its first byte.
+abbrev pub opcode : ℕ → Result Opcode Cause
+opcode b =
+    cond (b == 0x10) (Ok kind.Place)
+    (cond (b == 0x11) (Ok kind.Transition)
+    (cond (b == 0x12) (Ok kind.ArcIn) (cond (b == 0x13) (Ok kind.ArcOut) (cond (b == 0x1f) (Ok kind.End) (Err Unknown)))))
+
+-- How many operand bytes a command of a kind has, and the command of that kind at the front of the bytes.
+abbrev pub width : Opcode → ℕ
+width kind.Place = 5
+width kind.Transition = 0
+width kind.ArcIn = 4
+width kind.ArcOut = 4
+width kind.End = 1
+
+abbrev pub parsed : Opcode → List ℕ → Command
+parsed kind.Place bs = Place (four bs 1) (one bs 5)
+parsed kind.Transition bs = Transition
+parsed kind.ArcIn bs = ArcIn (one bs 1) (one bs 2) (two bs 3)
+parsed kind.ArcOut bs = ArcOut (one bs 1) (one bs 2) (two bs 3)
+parsed kind.End bs = End (one bs 1)
 
 -- How many operand bytes follow the first byte of a command.
 abbrev pub operands : ℕ → Option ℕ

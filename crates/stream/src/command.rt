@@ -1,9 +1,19 @@
 // A command of a net stream, with its operands.
-#[derive(Clone, Copy)]
+#[derive(Clone, Copy, Debug, PartialEq, Eq)]
 pub enum Command {
     Place(u32, u8),
     Transition,
     ArcIn(u8, u8, u16),
     ArcOut(u8, u8, u16),
     End(u8),
+}
+
+// The kinds of commands, which the first byte tells apart.
+#[derive(Clone, Copy, Debug, PartialEq, Eq)]
+pub enum Opcode {
+    Place,
+    Transition,
+    ArcIn,
+    ArcOut,
+    End,
 }

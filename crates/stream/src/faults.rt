@@ -2,41 +2,31 @@
 ghost use Rattle.std.specs.Prelude.{◌≡◌};
 ghost use Rattle.stream.specs.Faults.{from_net, read_told};
 
-use net::{Layer, NetFault, Placed, Told};
+use net::{NetFault, Origin, Placed, Told};
 
 // The bytes end before a command does, the command is unknown, or the net refuses it.
-#[derive(Clone, Copy)]
+#[derive(Clone, Copy, Debug, PartialEq, Eq)]
 pub enum Cause {
     Short,
     Unknown,
     Net(NetFault),
 }
 
-// A refused reading: its cause, the layer that raised it, the byte where the command starts, and the count of the commands
-// before it.
-#[derive(Clone, Copy)]
+// A refused reading: its cause, and where it arose. The byte is the one where the command starts, and the count that of the
+// commands before it.
+#[derive(Clone, Copy, Debug, PartialEq, Eq)]
 pub struct ReadFault {
     pub cause: Cause,
-    pub layer: Layer,
-    pub byte: usize,
-    pub count: usize,
+    pub origin: Origin,
 }
 
 impl From<Placed<NetFault>> for ReadFault {
     ghost from_gives = { λ e r. r ≡ from_net e };
 
     fn from(e: Placed<NetFault>) -> ReadFault {
-        let Placed {
-            fault,
-            layer,
-            byte,
-            count,
-        } = e;
         ReadFault {
-            cause: Cause::Net(fault),
-            layer,
-            byte,
-            count,
+            cause: Cause::Net(e.fault),
+            origin: e.origin,
         }
     }
 }
@@ -53,9 +43,7 @@ impl ReadFault {
         };
         Told {
             number,
-            layer: self.layer,
-            byte: self.byte,
-            count: self.count,
+            origin: self.origin,
         }
     }
 }

@@ -1,30 +1,63 @@
 // The reader of net streams: one-byte commands with operands, the most significant byte first.
 #![tactic(auto)]
 
-ghost use Rattle.std.specs.Prelude.{◌≡◌, ℕ, ◌+◌, ◌*◌, ◌<◌, ◌≤◌, true, length, Option, Result};
-ghost use Rattle.net.specs.Refusals.{Passes};
-ghost use Rattle.net.specs.States.{State, sized, Answered};
+ghost use Rattle.std.specs.Prelude.{◌≡◌, ◌+◌, ◌<◌, ◌^◌, true, length};
+ghost use Rattle.net.specs.States.{sized, Answered};
 ghost use Rattle.net.specs.Views.{drafted};
-ghost use Rattle.stream.specs.Streams.{operands, command_table, command, decoded, size, applied, stepped, read_on, Stepped, Filled, Read, four, two};
+ghost use Rattle.stream.specs.Streams.{opcode, width, parsed, decoded, size, applied, stepped, read_on, Stepped, Filled, Read, four, two};
 ghost use Rattle.stream.specs.Written.{ReadsWhatIsWritten};
 
 mod command;
 mod faults;
 
 pub use command::Command;
+use command::Opcode;
 pub use faults::{Cause, ReadFault};
-use net::{Draft, Layer, NetFault, at_place};
+use net::{Draft, Layer, NetFault, Position, at_place};
 
-// How many operand bytes follow the first byte of a command.
-fn operands(first: u8) -> Option<usize>
-    ensures { result ≡ operands first }
-{
-    match first {
-        0x10 => Some(5),
-        0x11 => Some(0),
-        0x12 | 0x13 => Some(4),
-        0x1f => Some(1),
-        _ => None,
+// The kind of a command by its first byte.
+impl TryFrom<u8> for Opcode {
+    type Error = Cause;
+
+    ghost try_from_gives = { λ b r. r ≡ opcode b };
+
+    fn try_from(byte: u8) -> Result<Opcode, Cause> {
+        match byte {
+            0x10 => Ok(Opcode::Place),
+            0x11 => Ok(Opcode::Transition),
+            0x12 => Ok(Opcode::ArcIn),
+            0x13 => Ok(Opcode::ArcOut),
+            0x1f => Ok(Opcode::End),
+            _ => Err(Cause::Unknown),
+        }
+    }
+}
+
+impl Opcode {
+    // How many operand bytes follow the first byte of the command.
+    fn width(self) -> usize
+        ensures { result ≡ width self }
+    {
+        match self {
+            Opcode::Place => 5,
+            Opcode::Transition => 0,
+            Opcode::ArcIn | Opcode::ArcOut => 4,
+            Opcode::End => 1,
+        }
+    }
+
+    // The command of this kind at the front of the bytes, which hold a whole one.
+    fn parse(self, bytes: &[u8]) -> Command
+        requires { width self < length bytes.now }
+        ensures { result ≡ parsed self bytes.now }
+    {
+        match self {
+            Opcode::Place => Command::Place(four(bytes, 1), bytes[5]),
+            Opcode::Transition => Command::Transition,
+            Opcode::ArcIn => Command::ArcIn(bytes[1], bytes[2], two(bytes, 3)),
+            Opcode::ArcOut => Command::ArcOut(bytes[1], bytes[2], two(bytes, 3)),
+            Opcode::End => Command::End(bytes[1]),
+        }
     }
 }
 
@@ -33,7 +66,7 @@ fn two(bytes: &[u8], i: usize) -> u16
     requires { i + 1 < length bytes.now }
     ensures { result ≡ two bytes.now i }
 {
-    256 * bytes[i] as u16 + bytes[i + 1] as u16
+    u16::from_be_bytes([bytes[i], bytes[i + 1]])
 }
 
 // The number of four bytes at i, the most significant first.
@@ -41,41 +74,23 @@ fn four(bytes: &[u8], i: usize) -> u32
     requires { i + 3 < length bytes.now }
     ensures { result ≡ four bytes.now i }
 {
-    65536 * two(bytes, i) as u32 + two(bytes, i + 2) as u32
-}
-
-// The operands of a command whose bytes are all there.
-fn parse(bytes: &[u8]) -> Command
-    requires { Passes (command_table bytes.now) }
-    ensures { result ≡ command bytes.now }
-{
-    match bytes[0] {
-        0x10 => Command::Place(four(bytes, 1), bytes[5]),
-        0x11 => Command::Transition,
-        0x12 => Command::ArcIn(bytes[1], bytes[2], two(bytes, 3)),
-        0x13 => Command::ArcOut(bytes[1], bytes[2], two(bytes, 3)),
-        _ => Command::End(bytes[1]),
-    }
+    u32::from_be_bytes([bytes[i], bytes[i + 1], bytes[i + 2], bytes[i + 3]])
 }
 
 // The command at the front of the bytes.
 fn decode(bytes: &[u8]) -> Result<Command, Cause>
     ensures { result ≡ decoded bytes.now }
 {
-    if bytes.len() == 0 {
+    let first = bytes.first().ok_or(Cause::Short)?;
+    let code = Opcode::try_from(*first)?;
+    if bytes.len() <= code.width() {
         return Err(Cause::Short);
     }
-    let Some(width) = operands(bytes[0]) else {
-        return Err(Cause::Unknown);
-    };
-    if bytes.len() < width + 1 {
-        return Err(Cause::Short);
-    }
-    Ok(parse(bytes))
+    Ok(code.parse(bytes))
 }
 
 impl Command {
-    // How many bytes the command has.
+    // How many bytes the command has. A way back from a command to its code, for the width of that, would be one more table.
     pub fn size(self) -> usize
         ensures { result ≡ size self }
     {
@@ -93,72 +108,66 @@ fn apply(draft: &mut Draft<'_>, c: Command) -> Result<(), NetFault>
     ensures { Answered result (drafted draft.new) (drafted draft.old) (applied (drafted draft.old) c) }
 {
     match c {
-        Command::Place(mark, flag) => draft.place(mark, flag as u32),
+        Command::Place(mark, flag) => draft.place(mark, flag.into()),
         Command::Transition => draft.transition(),
-        Command::ArcIn(t, p, weight) => draft.arc_in(t as usize, p as usize, weight as u32),
-        Command::ArcOut(t, p, weight) => draft.arc_out(t as usize, p as usize, weight as u32),
-        Command::End(question) => draft.question(question as u32),
+        Command::ArcIn(t, p, weight) => draft.arc_in(t.into(), p.into(), weight.into()),
+        Command::ArcOut(t, p, weight) => draft.arc_out(t.into(), p.into(), weight.into()),
+        Command::End(question) => draft.question(question.into()),
     }
 }
 
-// Reads and does the command at the front of the bytes, which start at the given byte after count commands.
-fn step(
-    draft: &mut Draft<'_>,
-    bytes: &[u8],
-    byte: usize,
-    count: usize,
-) -> Result<Command, ReadFault>
-    ensures { Stepped result (drafted draft.new) (drafted draft.old) (stepped (drafted draft.old) bytes.now byte count) }
+// The position behind a command that starts here.
+fn behind(at: Position, c: Command) -> Position
+    requires bytes { at.byte + size c < 2 ^ 64 }
+    requires count { at.count + 1 < 2 ^ 64 }
+    ensures byte { result.byte ≡ at.byte + size c }
+    ensures count { result.count ≡ at.count + 1 }
 {
-    match decode(bytes) {
-        Ok(c) => {
-            at_place(apply(draft, c), Layer::Net, byte, count)?;
-            Ok(c)
-        }
-        Err(cause) => Err(ReadFault {
-            cause,
-            layer: Layer::Reader,
-            byte,
-            count,
-        }),
+    Position {
+        byte: at.byte + c.size(),
+        count: at.count + 1,
     }
 }
 
-// Reads commands until the end command, and answers the bytes used.
+// Reads and does the command at the front of the bytes, which start at the given position.
+fn step(draft: &mut Draft<'_>, bytes: &[u8], at: Position) -> Result<Command, ReadFault>
+    ensures { Stepped result (drafted draft.new) (drafted draft.old) (stepped (drafted draft.old) bytes.now at.byte at.count) }
+{
+    let c = decode(bytes).map_err(|cause| ReadFault {
+        cause,
+        origin: at.origin(Layer::Reader),
+    })?;
+    at_place(apply(draft, c), at.origin(Layer::Net))?;
+    Ok(c)
+}
+
+// Reads commands until the end command, and answers the bytes used. Where the bytes end before it, the next step is refused.
 fn fill(draft: &mut Draft<'_>, bytes: &[u8]) -> Result<usize, ReadFault>
     requires { sized (drafted draft.old) ≡ true }
     ensures { Filled result (drafted draft.new) (read_on (length bytes.now) (drafted draft.old) bytes.now 0 0) }
 {
-    let mut at = 0;
-    let mut count = 0;
-    while at < bytes.len() {
-        let c = step(draft, &bytes[at..], at, count)?;
-        at += c.size();
+    let mut at = Position::START;
+    loop {
+        let c = step(draft, &bytes[at.byte..], at)?;
+        at = behind(at, c);
         if let Command::End(_) = c {
-            return Ok(at);
+            return Ok(at.byte);
         }
-        count += 1;
     }
-    Err(ReadFault {
-        cause: Cause::Short,
-        layer: Layer::Reader,
-        byte: at,
-        count,
-    })
 }
 
 // Clears the draft, fills it from the bytes, tells it the question, and answers the bytes used. Bytes after the end command
 // are not looked at. A refused reading leaves the draft empty.
+#[tactic(auto, using(crate::proofs::Reading::empty_sized, crate::proofs::Writing::reads_what_is_written))]
 pub fn read(draft: &mut Draft<'_>, bytes: &[u8]) -> Result<usize, ReadFault>
     ensures exact { Read result (drafted draft.new) (drafted draft.old) bytes.now }
     ensures honest { ReadsWhatIsWritten }
 {
-    at_place(draft.clear(), Layer::Net, 0, 0)?;
-    match fill(draft, bytes) {
-        Ok(used) => Ok(used),
-        Err(fault) => {
-            let _ = draft.clear();
-            Err(fault)
-        }
+    at_place(draft.clear(), Position::START.origin(Layer::Net))?;
+    let filled = fill(draft, bytes);
+    if filled.is_err() {
+        // The sheet has its size, so that this clearing is not refused.
+        let _ = draft.clear();
     }
+    filled
 }

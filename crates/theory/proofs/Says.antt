@@ -1,7 +1,10 @@
 -- Tests that compute, and what they say in words.
-use Rattle.std.proofs.Common.{◌≡◌, ℕ, zero, suc, ◌<◌, ◌≤◌, Bool, true, false, cond, not, ◌&&◌, ◌||◌, eqb, ltb, leb, ◌⊎◌, sym, refl, ap, ◌∙◌, inl, inr, arith}
-use Rattle.std.proofs.lemmas.Bool.{both_ways, cases_Bool, cases_eq, not-true, and_parts, and_from, or_cases, or_left, or_right, leb-true, le-leb, ltb-true, lt-ltb, eqb-true, eq-eqb}
-use Rattle.theory.specs.Tests.{every, some, first, ◌⇒◌}
+use Rattle.std.proofs.Common.{◌≡◌, ℕ, zero, suc, ◌+◌, ◌<◌, ◌≤◌, List, [], ◌∷◌, ◌++◌, Some, None, Bool, true, false, cond, not, ◌&&◌, ◌||◌, eqb, ltb, leb, ◌⊎◌, sym, refl, ap, ◌∙◌, inl, inr, zero-add, arith}
+use Rattle.std.proofs.lemmas.Bool.{both_ways, cases_Bool, cases_eq, not-true, and_parts, and_from, or_cases, or_left, or_right, or_parts, leb-true, le-leb, ltb-true, lt-ltb, eqb-true, eq-eqb}
+use Rattle.std.proofs.lemmas.List.Folds.{list_all-append, list_any-append, find-append}
+use Rattle.std.specs.List.{range_with_len, list_all, list_any, find}
+use Rattle.std.specs.Option.{option_or, unwrap_or}
+use Rattle.theory.specs.Tests.{every, some, lowest, first, ◌⇒◌}
 
 -- The test comes out true exactly when the statement holds.
 abbrev pub Says : Bool → Type 0 → Type 0
@@ -55,37 +58,77 @@ implies_says {a} {b} {P} {Q} s t = (λ e p. t.0 (go a (s.1 p) e), λ f. back a r
 pub restated : {b : Bool} {P Q : Type 0} → Says b P → (P → Q) → (Q → P) → Says b Q
 restated s f g = (λ e. f (s.0 e), λ q. s.1 (g q))
 
--- Every number below `n`, and some number below `n`.
-pub every_at : (n : ℕ) (f : ℕ → Bool) → every n f ≡ true → (i : ℕ) → i < n → f i ≡ true
+-- Every number below `n`, some number and the lowest one: of none, and with one more number looked at.
+pub every_zero : (f : ℕ → Bool) → every 0 f ≡ true
 unfolding every
+every_zero f = refl
+
+pub some_zero : (f : ℕ → Bool) → some 0 f ≡ false
+unfolding some
+some_zero f = refl
+
+range_end : (a n : ℕ) → range_with_len a (suc n) ≡ range_with_len a n ++ (a + n) ∷ []
+range_end a zero = ap (λ z. z ∷ []) (omega arith)
+range_end a (suc n) = ap (λ l. a ∷ l) (range_end (a + 1) n ∙ ap (λ z. range_with_len (a + 1) n ++ z ∷ []) (omega arith))
+
+pub every_suc : (n : ℕ) (f : ℕ → Bool) → every (suc n) f ≡ (every n f && f n)
+unfolding every
+every_suc n f =
+    ap (list_all f) (range_end 0 n) ∙ list_all-append f (range_with_len 0 n) ((0 + n) ∷ []) ∙ ap (λ b. list_all f (range_with_len 0 n) && b) (and_true (f (0 + n))) ∙ ap (λ k. list_all f (range_with_len 0 n) && f k) (zero-add n)
+  where
+    and_true : (b : Bool) → (b && true) ≡ b
+    and_true true = refl
+    and_true false = refl
+
+pub some_suc : (n : ℕ) (f : ℕ → Bool) → some (suc n) f ≡ (some n f || f n)
+unfolding some
+some_suc n f =
+    ap (list_any f) (range_end 0 n) ∙ list_any-append f (range_with_len 0 n) ((0 + n) ∷ []) ∙ ap (λ b. list_any f (range_with_len 0 n) || b) (or_false (f (0 + n))) ∙ ap (λ k. list_any f (range_with_len 0 n) || f k) (zero-add n)
+  where
+    or_false : (b : Bool) → (b || false) ≡ b
+    or_false true = refl
+    or_false false = refl
+
+-- Every number below `n`, and some number below `n`.
+pub lowest_suc : (n : ℕ) (f : ℕ → Bool) → lowest (suc n) f ≡ option_or (lowest n f) (cond (f n) (Some n) None)
+unfolding lowest
+lowest_suc n f =
+    ap (find f) (range_end 0 n) ∙ find-append f (range_with_len 0 n) ((0 + n) ∷ [])
+    ∙ ap (λ k. option_or (find f (range_with_len 0 n)) (cond (f k) (Some k) None)) (zero-add n)
+
+pub lowest_none : (n : ℕ) (f : ℕ → Bool) → some n f ≡ false → lowest n f ≡ None
+unfolding lowest
+lowest_none zero f e = refl
+lowest_none (suc n) f e =
+    let k = or_parts (some n f) (f n) (sym (some_suc n f) ∙ e) in
+    lowest_suc n f ∙ ap (λ o. option_or o (cond (f n) (Some n) None)) (lowest_none n f k.0) ∙ ap (λ b. cond b (Some n) None) k.1
+
+pub every_at : (n : ℕ) (f : ℕ → Bool) → every n f ≡ true → (i : ℕ) → i < n → f i ≡ true
 every_at zero f e i h = absurd (omega arith)
-every_at (suc n) f e i h = go (every_at n f (and_parts (every n f) (f n) e).0 i) (cases_eq i n)
+every_at (suc n) f e i h = go (every_at n f (and_parts (every n f) (f n) (sym (every_suc n f) ∙ e)).0 i) (cases_eq i n)
   where
     go : (i < n → f i ≡ true) → (i ≡ n) ⊎ (i ≡ n → ⊥) → f i ≡ true
-    go below (inl k) = ap f k ∙ (and_parts (every n f) (f n) e).1
+    go below (inl k) = ap f k ∙ (and_parts (every n f) (f n) (sym (every_suc n f) ∙ e)).1
     go below (inr k) = below (omega arith)
 
 pub every_from : (n : ℕ) (f : ℕ → Bool) → ((i : ℕ) → i < n → f i ≡ true) → every n f ≡ true
-unfolding every
-every_from zero f h = refl
-every_from (suc n) f h = and_from (every n f) (f n) (every_from n f (λ i l. h i (omega arith))) (h n (omega arith))
+every_from zero f h = every_zero f
+every_from (suc n) f h = every_suc n f ∙ and_from (every n f) (f n) (every_from n f (λ i l. h i (omega arith))) (h n (omega arith))
 
 pub every_says : (n : ℕ) (f : ℕ → Bool) (P : ℕ → Type 0) → ((i : ℕ) → i < n → Says (f i) (P i)) → Says (every n f) ((i : ℕ) → i < n → P i)
 every_says n f P s = (λ e i h. (s i h).0 (every_at n f e i h), λ k. every_from n f (λ i h. (s i h).1 (k i h)))
 
 pub some_at : (n : ℕ) (f : ℕ → Bool) → some n f ≡ true → (i : ℕ) × (i < n) × (f i ≡ true)
-unfolding some
-some_at zero f e = absurd (both_ways false refl e)
-some_at (suc n) f e = go (some_at n f) (or_cases (some n f) (f n) e)
+some_at zero f e = absurd (both_ways false refl (sym (some_zero f) ∙ e))
+some_at (suc n) f e = go (some_at n f) (or_cases (some n f) (f n) (sym (some_suc n f) ∙ e))
   where
     go : (some n f ≡ true → (i : ℕ) × (i < n) × (f i ≡ true)) → (some n f ≡ true) ⊎ (f n ≡ true) → (i : ℕ) × (i < suc n) × (f i ≡ true)
     go below (inl k) = let x = below k in (x.0, omega (arith, x.1), x.2)
     go below (inr k) = (n, omega arith, k)
 
 pub some_from : (n : ℕ) (f : ℕ → Bool) (i : ℕ) → i < n → f i ≡ true → some n f ≡ true
-unfolding some
 some_from zero f i h e = absurd (omega arith)
-some_from (suc n) f i h e = go (some_from n f i) (cases_eq i n)
+some_from (suc n) f i h e = some_suc n f ∙ go (some_from n f i) (cases_eq i n)
   where
     go : (i < n → f i ≡ true → some n f ≡ true) → (i ≡ n) ⊎ (i ≡ n → ⊥) → (some n f || f n) ≡ true
     go below (inl k) = or_right (some n f) (f n) (ap f (sym k) ∙ e)
@@ -96,23 +139,26 @@ some_says n f P s =
     (λ e. let x = some_at n f e in (x.0, x.1, (s x.0 x.1).0 x.2), λ x. some_from n f x.0 x.1 ((s x.0 x.1).1 x.2))
 
 -- The lowest number of which a test holds.
-pub first_holds : (n : ℕ) (f : ℕ → Bool) → some n f ≡ true → (first n f < n) × (f (first n f) ≡ true)
-unfolding some first
-first_holds zero f e = absurd (both_ways false refl e)
-first_holds (suc n) f e = go (first_holds n f) (cases_Bool (some n f)) (cases_Bool (f n))
+pub lowest_some : (n : ℕ) (f : ℕ → Bool) → some n f ≡ true → (i : ℕ) × (lowest n f ≡ Some i) × (i < n) × (f i ≡ true)
+lowest_some zero f e = absurd (both_ways false refl (sym (some_zero f) ∙ e))
+lowest_some (suc n) f e = go (lowest_some n f) (cases_Bool (some n f)) (cases_Bool (f n))
   where
-    go : (some n f ≡ true → (first n f < n) × (f (first n f) ≡ true)) → (some n f ≡ true) ⊎ (some n f ≡ false) → (f n ≡ true) ⊎ (f n ≡ false)
-        → (cond (some n f) (first n f) (cond (f n) n (suc n)) < suc n) × (f (cond (some n f) (first n f) (cond (f n) n (suc n))) ≡ true)
-    go below (inl k) m = let x = below k in rw k (omega (arith, x.0), x.1)
-    go below (inr k) (inl m) = rw (k, m) (omega arith, m)
-    go below (inr k) (inr m) = absurd (both_ways (some n f || f n) (ap (λ b. b || f n) k ∙ m) e)
+    go : (some n f ≡ true → (i : ℕ) × (lowest n f ≡ Some i) × (i < n) × (f i ≡ true)) → (some n f ≡ true) ⊎ (some n f ≡ false) → (f n ≡ true) ⊎ (f n ≡ false)
+        → (i : ℕ) × (lowest (suc n) f ≡ Some i) × (i < suc n) × (f i ≡ true)
+    go below (inl k) m = let x = below k in (x.0, lowest_suc n f ∙ ap (λ o. option_or o (cond (f n) (Some n) None)) x.1, omega (arith, x.2), x.3)
+    go below (inr k) (inl m) =
+        (n, lowest_suc n f ∙ ap (λ o. option_or o (cond (f n) (Some n) None)) (lowest_none n f k) ∙ ap (λ b. cond b (Some n) None) m, omega arith, m)
+    go below (inr k) (inr m) = absurd (both_ways (some n f || f n) (ap (λ b. b || f n) k ∙ m) (sym (some_suc n f) ∙ e))
+
+pub first_holds : (n : ℕ) (f : ℕ → Bool) → some n f ≡ true → (first n f < n) × (f (first n f) ≡ true)
+first_holds n f e =
+    let x = lowest_some n f e in
+    let i : first n f ≡ x.0 = ap (λ o. unwrap_or o n) x.1 in
+    (omega (arith, i, x.2), ap f i ∙ x.3)
 
 pub first_below : (n : ℕ) (f : ℕ → Bool) → first n f < n → some n f ≡ true
-unfolding some first
-first_below zero f h = absurd (omega arith)
-first_below (suc n) f h = go (cases_Bool (some n f)) (cases_Bool (f n)) h
+first_below n f h = go (cases_Bool (some n f))
   where
-    go : (some n f ≡ true) ⊎ (some n f ≡ false) → (f n ≡ true) ⊎ (f n ≡ false) → cond (some n f) (first n f) (cond (f n) n (suc n)) < suc n → (some n f || f n) ≡ true
-    go (inl k) m l = or_left (some n f) (f n) k
-    go (inr k) (inl m) l = or_right (some n f) (f n) m
-    go (inr k) (inr m) l = absurd (omega (arith, rw (k, m) at l))
+    go : (some n f ≡ true) ⊎ (some n f ≡ false) → some n f ≡ true
+    go (inl k) = k
+    go (inr k) = let i : first n f ≡ n = ap (λ o. unwrap_or o n) (lowest_none n f k) in absurd (omega (arith, i, h))

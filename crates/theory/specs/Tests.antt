@@ -1,23 +1,24 @@
 -- The conditions of the steps as tests that compute, of a state. Beside each stands, in the proofs, that it says the same as the
 -- condition in words of the net that the state holds.
-use Rattle.std.specs.Prelude.{ℕ, zero, suc, ◌+◌, ◌-◌, ◌*◌, ◌/◌, ◌%◌, ◌^◌, Bool, true, false, cond, not, ◌&&◌, ◌||◌, nat_lt, nat_le, List, filter, ◌==◌, nat_eq, slice_index}
-use Rattle.std.specs.List.{range_with_len}
+use Rattle.std.specs.Prelude.{ℕ, zero, suc, ◌+◌, ◌-◌, ◌*◌, ◌/◌, ◌%◌, ◌^◌, Bool, true, false, cond, not, ◌&&◌, ◌||◌, nat_lt, nat_le, List, filter, Option, ◌==◌, nat_eq, slice_index}
+use Rattle.std.specs.List.{range_with_len, list_all, list_any, find}
+use Rattle.std.specs.Option.{unwrap_or}
 use Rattle.net.specs.Sheets.{Row, most_mark, most_weight}
 use Rattle.net.specs.States.{State, stands, in_support, mark, take, put}
 
--- The test holds of every number below `n`; of some number below `n`.
+-- The test holds of every number below `n`; of some number below `n`. These stay shut, since opened they would be counted out.
 unfoldable pub every : ℕ → (ℕ → Bool) → Bool
-every zero f = true
-every (suc n) f = every n f && f n
+every n f = list_all f (range_with_len 0 n)
 
 unfoldable pub some : ℕ → (ℕ → Bool) → Bool
-some zero f = false
-some (suc n) f = some n f || f n
+some n f = list_any f (range_with_len 0 n)
 
--- The lowest number below `n` of which the test holds, else `n`.
-unfoldable pub first : ℕ → (ℕ → Bool) → ℕ
-first zero f = 0
-first (suc n) f = cond (some n f) (first n f) (cond (f n) n (suc n))
+-- The lowest number below `n` of which the test holds, if there is one; else `n`.
+unfoldable pub lowest : ℕ → (ℕ → Bool) → Option ℕ
+lowest n f = find f (range_with_len 0 n)
+
+abbrev pub first : ℕ → (ℕ → Bool) → ℕ
+first n f = unwrap_or (lowest n f) n
 
 abbrev pub every_place : (ℕ → Bool) → Bool
 every_place f = every 64 f
@@ -42,10 +43,13 @@ dominated? s t u = every_place (λ p. nat_le (take s u p) (take s t p) && (put s
 abbrev pub multiple? : State → ℕ → ℕ → ℕ → Bool
 multiple? s t u k = every_place (λ p. ((take s t p) == (k * take s u p)) && put s t p == k * put s u p)
 
+abbrev pub composed_at? : State → ℕ → ℕ → ℕ → ℕ → Bool
+composed_at? s t u v p =
+    nat_le (take s u p) (take s t p)
+    && (nat_le (take s v p) (put s u p) && (put s t p + take s u p + take s v p) == (put s u p + put s v p + take s t p))
+
 abbrev pub composed? : State → ℕ → ℕ → ℕ → Bool
-composed? s t u v =
-    every_place (λ p. nat_le (take s u p) (take s t p)
-    && (nat_le (take s v p) (put s u p) && (put s t p + take s u p + take s v p) == (put s u p + put s v p + take s t p)))
+composed? s t u v = every_place (composed_at? s t u v)
 
 abbrev pub draining? : State → ℕ → Bool
 draining? s t = every_place (λ p. nat_le (put s t p) (take s t p) && (in_support s p ⇒ nat_eq (put s t p) (take s t p)))

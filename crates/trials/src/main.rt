@@ -8,34 +8,12 @@ use report::{print, report};
 use std::alloc::Global;
 use std::fs;
 
-// The value of a hex digit.
-fn digit(b: u8) -> anyhow::Result<u8> {
-    match b {
-        b'0'..=b'9' => Ok(b - b'0'),
-        b'a'..=b'f' => Ok(b - b'a' + 10),
-        _ => Err(anyhow!("a table has a byte that is no hex digit")),
-    }
-}
-
-// Adds the bytes of a group of hex digits.
-fn add_bytes(input: &mut Vec<u8>, hex: &[u8]) -> anyhow::Result<()> {
-    for pair in hex.chunks_exact(2) {
-        let high = digit(pair[0])?;
-        let low = digit(pair[1])?;
-        input.push((high & 15) * 16 + (low & 15))?;
-    }
-    Ok(())
-}
-
-// Adds a group as often as it is repeated.
-fn add_group(input: &mut Vec<u8>, group: &str) -> anyhow::Result<()> {
-    match group.split_once('x') {
-        Some((hex, times)) => {
-            for _ in 0..times.parse::<u32>()? {
-                add_bytes(input, hex.as_bytes())?;
-            }
-        }
-        None => add_bytes(input, group.as_bytes())?,
+// Adds a group of hex digits as often as it is repeated.
+fn add_group(input: &mut Vec<u8>, heap: Global, group: &str) -> anyhow::Result<()> {
+    let (digits, times) = group.split_once('x').unwrap_or((group, "1"));
+    let bytes = hex::decode(heap, digits)?;
+    for _ in 0..times.parse::<u32>()? {
+        input.extend_from_slice(&bytes)?;
     }
     Ok(())
 }
@@ -44,7 +22,7 @@ fn add_group(input: &mut Vec<u8>, group: &str) -> anyhow::Result<()> {
 fn input_of(heap: Global, text: &str) -> anyhow::Result<Vec<u8>> {
     let mut input = Vec::new(heap);
     for group in text.split(' ') {
-        add_group(&mut input, group)?;
+        add_group(&mut input, heap, group)?;
     }
     Ok(input)
 }
@@ -76,13 +54,12 @@ fn passes(heap: Global, case: &str) -> anyhow::Result<bool> {
 // Runs a table, prints the cases that differ and the count.
 fn run_table(rt: &HostRuntime, name: &str) -> anyhow::Result<()> {
     let table = fs::read_to_string(rt, name)?;
-    let mut all = 0u32;
+    let all = table.as_str().lines().count();
     let mut differ = 0u32;
-    for case in table.as_str().lines() {
-        all = all.saturating_add(1);
+    for (number, case) in (1u32..).zip(table.as_str().lines()) {
         if !passes(rt.alloc(), case)? {
             differ = differ.saturating_add(1);
-            println!(rt; "{name}: case {all} differs")?;
+            println!(rt; "{name}: case {number} differs")?;
         }
     }
     println!(rt; "{name}: {all} cases, {differ} differ")?;

@@ -8,5 +8,5 @@ use Rattle.merges.proofs.merge_products.Goals as goal
 pub returns : goal.returns
 returns c =
     let e : products_fit? (view c.args.net.now) c.args.p (product_row c.args.kind (view c.args.net.now) c.args.p) ≡ true =
-    merging_passed c.args.kind (view c.args.net.now) c.args.p c.requires.1 in
+    merging_passed c.args.kind (view c.args.net.now) c.args.p c.requires in
     search (rules, e)

@@ -1,8 +1,8 @@
-use Rattle.std.proofs.Common.{arith}
+use Rattle.std.proofs.Common.{rules}
+use Rattle.checks.proofs.Made.{made}
 use Rattle.net.specs.States.{view}
-use Rattle.moves.proofs.Ahead.{ahead_below}
+use Rattle.theory.specs.Tests.{mark_ahead}
 use Rattle.moves.proofs.marks_ahead.Goals as goal
 
-pub overflow_cast-marks : goal.overflow_cast-marks
-overflow_cast-marks c =
-    omega (arith, c.mark_ahead.ensures, ahead_below (view c.args.net.now) c.args.t c.args.k c.requires c.loop-p.p (omega arith))
+pub returns : goal.returns
+returns c = λ p h. made (mark_ahead (view c.args.net.now) c.args.t c.args.k) (λ j y q e. search rules) c.from_fn.result 64 c.from_fn.ensures.items p 0 h

@@ -1,9 +1,9 @@
-use Rattle.std.proofs.Common.{◌≡◌, refl, arith}
-use Rattle.net.proofs.Writes.{after_set, all_zero}
+use Rattle.std.proofs.Common.{rules, get_or, ap, ◌∙◌}
+use Rattle.std.proofs.lemmas.List.{get_or-replicate}
+use Rattle.net.proofs.Writes.{all_zero}
 use Rattle.net.proofs.wipe.Goals as goal
 
-pub loop-x-preserved : goal.loop-x-preserved
-loop-x-preserved c = λ k h. after_set _ _ _ k (omega arith) (λ z. z ≡ 0) (λ e. refl) (λ n. c.loop-x.invariant k (omega arith))
-
 pub returns : goal.returns
-returns c = all_zero c.loop-x.sheet (omega arith) (λ k h. c.loop-x.invariant k (omega arith))
+returns c =
+    all_zero c.fill.new.self (c.fill.ensures.len ∙ c.requires)
+    (λ k h. ap (λ ys. get_or ys k 0) (c.fill.ensures.after (λ y e. search rules)) ∙ get_or-replicate _ k 0 0 (search rules))

@@ -1,12 +1,9 @@
-use Rattle.std.proofs.Common.{sym, arith}
-use Rattle.rewrites.proofs.Leaving.{length_off, left_all}
+use Rattle.std.proofs.Common.{rules, ◌≡◌, cond, not, eqb, ap, ◌∙◌}
+use Rattle.theory.specs.Nexts.{off}
+use Rattle.rewrites.proofs.Writing.{cond_not}
 use Rattle.rewrites.proofs.leave_place.Goals as goal
 
-pub returns : goal.returns
-returns c =
-    record {
-      count = sym (length_off c.args.p c.args.n c.args.sheet.now);
-      sheet =
-          left_all c.args.p c.args.n c.args.sheet.now c.clear_place.new.sheet c.wipe_from.new.sheet c.clear_place.ensures
-          (omega arith) c.wipe_from.ensures.before (λ i a b. c.wipe_from.ensures.after i a (omega arith));
-    }
+pub returns-clause-sheet : goal.returns-clause-sheet
+returns-clause-sheet c =
+    c.leave_rest.ensures.sheet (off c.args.p)
+    (λ f q b l e. let told : b ≡ not (eqb q c.args.p) = search rules in ap (λ d. cond d (f q) 0) told ∙ cond_not (eqb q c.args.p) (f q) 0)

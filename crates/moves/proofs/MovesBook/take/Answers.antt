@@ -1,22 +1,33 @@
-use Rattle.std.proofs.Common.{◌≡◌, ℕ, Bool, true, false, cond, eqb, is_some, Option, sym, refl, ap, ◌∙◌}
+use Rattle.std.proofs.Common.{sym, ◌∙◌}
+use Rattle.std.proofs.lemmas.Result.{err_from_is_err_and}
 use Rattle.net.specs.States.{view}
-use Rattle.theory.specs.Steps as steps
-use Rattle.books.specs.Frames.{framed}
-use Rattle.books.specs.House.{one, byte_of, plain}
-use Rattle.books.proofs.Housing.{house_judged}
-use Rattle.moves.specs.Faults.{from_net, from_bytes, from_step}
+use Rattle.net.proofs.Tables.{ok_not_err}
+use Rattle.books.specs.Faults.{from_net, from_bytes, from_step}
+use Rattle.books.specs.House.{plain}
+use Rattle.books.proofs.Housing.{frame_by, house_done, house_refused}
 use Rattle.moves.specs.Moves.{move_width, move_step}
+use Rattle.moves.proofs.Owning.{own}
 use Rattle.moves.proofs.MovesBook.take.Goals as goal
 
--- Every step of the book is one of its own.
-own : (b : Bool) (t k p q a c : ℕ) → is_some (move_width (byte_of (cond b (steps.fire_ahead t k) (steps.fuse_places p q a c)))) ≡ true
-own true t k p q a c = refl
-own false t k p q a c = refl
+pub returns-in_err-check : goal.returns-in_err-check
+returns-in_err-check c =
+    let p = err_from_is_err_and c.from_residual-in_err-check.result c.from_residual-in_err-check.ensures.1 in
+    let q =
+    house_refused from_net from_bytes from_step move_width move_step (view c.args.net.now) c.args.step.now (plain c.decode-step.result) (sym c.in_ok-check_size.ensures)
+    (sym (frame_by move_width c.args.step.now _ _ c.move_width.ensures c.byte_at.ensures) ∙ sym c.in_ok-frame.ensures) c.decode-step.ensures _
+    (own c.args.step.now) (sym c.in_err-check.ensures) in
+    record { answer = p.1 ∙ rw p.2 q.answer; state = q.state }
+
+pub returns-in_err-rewrite : goal.returns-in_err-rewrite
+returns-in_err-rewrite c =
+    let d =
+    house_done from_net from_bytes from_step move_width move_step (view c.args.net.now) c.args.step.now (plain c.decode-step.result) (sym c.in_ok-check_size.ensures)
+    (sym (frame_by move_width c.args.step.now _ _ c.move_width.ensures c.byte_at.ensures) ∙ sym c.in_ok-frame.ensures) c.decode-step.ensures
+    c.rewrite.result (view c.rewrite.new.net) (sym c.in_ok-check.ensures) c.rewrite.ensures in
+    absurd (ok_not_err (sym c.in_err-rewrite.was ∙ d.0))
 
 pub returns : goal.returns
 returns c =
-    house_judged from_net from_bytes from_step move_width move_step (view c.args.net.now) c.args.step.now (plain c.decode.result)
-    c.apply.result (view c.apply.new.net) (sym c.in_ok-check_size.ensures)
-    (sym (ap (λ (o : Option ℕ). framed (λ _. o) c.args.step.now) (c.move_width.ensures ∙ ap move_width c.byte_at.ensures))
-    ∙ sym c.in_ok-frame.ensures)
-    c.decode.ensures (own (eqb (one c.args.step.now 0) 0x2d) _ _ _ _ _ _) c.apply.ensures
+    (house_done from_net from_bytes from_step move_width move_step (view c.args.net.now) c.args.step.now (plain c.decode-step.result) (sym c.in_ok-check_size.ensures)
+    (sym (frame_by move_width c.args.step.now _ _ c.move_width.ensures c.byte_at.ensures) ∙ sym c.in_ok-frame.ensures) c.decode-step.ensures
+    c.rewrite.result (view c.rewrite.new.net) (sym c.in_ok-check.ensures) c.rewrite.ensures).1

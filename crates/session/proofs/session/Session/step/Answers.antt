@@ -1,5 +1,4 @@
 use Rattle.std.proofs.Common.{sym, ◌∙◌}
-use Rattle.net.specs.declared.net.Layer.TheVariants as layers
 use Rattle.net.specs.States.{view}
 use Rattle.session.specs.Feeds.{meaning}
 use Rattle.session.proofs.Sounds.{placed_ok, with_place_ok, answered_sound, answered_sized}
@@ -19,12 +18,12 @@ pub returns : goal.returns
 returns g c =
     let before = view c.args.self.now.net in
     let last = view c.take.new.net in
-    let n = c.in_ok-n.n in
-    let there = placed_ok c.front.result c.at_place.result layers.Session c.args.byte c.args.count n c.at_place.ensures c.in_ok-n.was in
-    let took = with_place_ok c.take.result c.by_book.result c.args.byte c.args.count tt c.by_book.ensures c.in_ok-by_book.was in
+    let n = c.in_ok-length.length in
+    let there = placed_ok c.front.result c.at_place.result c.origin.result n c.at_place.ensures c.in_ok-length.was in
+    let took = with_place_ok c.take.result c.by_book.result c.args.at tt c.by_book.ensures c.in_ok-by_book.was in
     record {
       exact =
-          step_taken (meaning g.B.Book.width_of g.B.Book.taken) last before c.args.bytes.now n c.args.byte c.args.count c.take.result
+          step_taken (meaning g.B.Book.width_of g.B.Book.taken) last before c.args.bytes.now n c.args.at.byte c.args.at.count c.take.result
           (sym (front_by g.B.Book.width_of c.args.bytes.now c.byte_at.result c.width.result c.width.ensures c.byte_at.ensures)
           ∙ sym c.front.ensures.value ∙ there)
           c.take.ensures took;

@@ -9,18 +9,18 @@ pub returns-in_err-used : goal.returns-in_err-used
 returns-in_err-used g c =
     let m = meaning g.B.Book.width_of g.B.Book.taken in
     let p = err_from_is_err_and c.from_residual.result c.from_residual.ensures.1 in
-    let q = feed_stops m c.args.bytes.now (opened c.loop-at.self) c.loop-at.at c.loop-at.count _ c.loop-at-test.true c.loop-at.invariant.1
+    let q = feed_stops m c.args.bytes.now (opened c.loop-at.self) c.loop-at.at.byte c.loop-at.at.count _ c.loop-at-test.true c.loop-at.invariant.1
     c.loop-at.invariant.3 (opened c.step.new.self) _ c.in_err-used.ensures.exact in
     record { answer = p.1 ∙ rw p.2 q.answer; state = q.state }
 
 pub loop-at-preserved : goal.loop-at-preserved
 loop-at-preserved g c =
     let m = meaning g.B.Book.width_of g.B.Book.taken in
-    let q = feed_again m c.args.bytes.now (opened c.loop-at.self) c.loop-at.at c.loop-at.count _ c.loop-at-test.true c.loop-at.invariant.1
+    let q = feed_again m c.args.bytes.now (opened c.loop-at.self) c.loop-at.at.byte c.loop-at.at.count _ c.loop-at-test.true c.loop-at.invariant.1
     c.loop-at.invariant.3 (opened c.step.new.self) c.in_ok-used.used c.in_ok-used.ensures.exact in
     (q.0, q.1, c.in_ok-used.ensures.size, q.2)
 
 pub returns : goal.returns
 returns g c =
-    feed_ends (meaning g.B.Book.width_of g.B.Book.taken) c.args.bytes.now (opened c.loop-at.self) c.loop-at.at c.loop-at.count _
+    feed_ends (meaning g.B.Book.width_of g.B.Book.taken) c.args.bytes.now (opened c.loop-at.self) c.loop-at.at.byte c.loop-at.at.count _
     c.loop-at-test.false c.loop-at.invariant.3

@@ -1,0 +1,7 @@
+use Rattle.std.proofs.Common.{◌≡◌, ◌++◌, map}
+use Rattle.net.specs.States.{view}
+use Rattle.products.specs.Products.{product_row, numbers}
+use Rattle.products.proofs.push_products.Given as goal
+
+abbrev pub invariant-loop-f : goal.invariant-loop-f
+invariant-loop-f l = l.rows.items ≡ l.initial.rows.items ++ map (λ f. numbers (product_row l.kind (view l.net) l.fn.p l.h f)) l.yielded
