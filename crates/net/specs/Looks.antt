@@ -7,7 +7,7 @@ use Rattle.net.specs.declared.net.NetFault.TheVariants.{WrongSize, NoTransition,
 use Rattle.net.specs.declared.net.Side.{Side}
 use Rattle.net.specs.Sheets.{sheet_size, base, part}
 use Rattle.net.specs.Refusals.{Check, ◌unless◌, judged}
-use Rattle.net.specs.States.{State, sized, stands, in_support, mark, take, put, question_number}
+use Rattle.net.specs.States.{State, sized, stands, in_support, mark, take, put, question_number, Answered}
 
 -- 1 for yes, 0 for no.
 abbrev pub flag : Bool → ℕ
@@ -46,3 +46,7 @@ looked s (look.Support p) = judged (place_checks s p) (flag (in_support s p))
 looked s (look.Mark p) = judged (place_checks s p) (mark s p)
 looked s (look.Take t p) = judged (arc_checks s t p) (take s t p)
 looked s (look.Put t p) = judged (arc_checks s t p) (put s t p)
+
+-- A call that asks the sheet's size alone: it refuses a sheet of wrong size, and else leaves this state.
+abbrev pub Leaves : Result Unit NetFault → State → State → State → Type 0
+Leaves r after before next = Answered r after before (judged (sheet_checks before) next)

@@ -41,7 +41,7 @@ net_number BadQuestion = 12
 
 -- Where a refusal of a layer arises: at byte `b`, after `n` commands or steps. In a call without bytes both are 0.
 abbrev pub origin_at : Layer → ℕ → ℕ → Origin
-origin_at l b n = record { layer = l; byte = b; count = n }
+origin_at l b n = record { layer = l; at = record { byte = b; count = n } }
 
 -- What a refusal of the net tells.
 abbrev pub net_told : NetFault → Told

@@ -71,11 +71,7 @@ impl Position {
     pub fn origin(self, layer: Layer) -> Origin
         ensures { result ≡ origin_at layer self.byte self.count }
     {
-        Origin {
-            layer,
-            byte: self.byte,
-            count: self.count,
-        }
+        Origin { layer, at: self }
     }
 }
 
@@ -154,13 +150,12 @@ pub fn flag_at(flags: &[bool; 64], p: usize) -> bool
 
 impl Side {
     // Where the weights of transition t on this side begin in the sheet.
-    fn base(self, t: usize) -> usize
-        requires { t < 96 }
+    pub fn base(self, t: u8) -> usize
         ensures { result ≡ base self t }
     {
         match self {
-            Side::Takes => 64 + 128 * t,
-            Side::Puts => 128 + 128 * t,
+            Side::Takes => 64 + 128 * usize::from(t),
+            Side::Puts => 128 + 128 * usize::from(t),
         }
     }
 }
@@ -210,7 +205,8 @@ impl Net<'_> {
         ensures { result ≡ weighed (view self.now) side t p }
     {
         self.check_arc(t, p)?;
-        Ok(self.sheet[side.base(t) + p])
+        // The cast loses nothing: a net has at most 96 transitions.
+        Ok(self.sheet[side.base(t as u8) + p])
     }
 
     // Is the place in the support?
@@ -221,12 +217,13 @@ impl Net<'_> {
         Ok(u32::from(flag_at(&self.shape.support, p)))
     }
 
-    // One number of the net.
+    // One number of the net. Yes is 1 and no is 0, since every look answers a number.
     pub fn look(&self, at: Look) -> Result<u32, NetFault>
         ensures { result ≡ looked (view self.now) at }
     {
         self.check_size()?;
         match at {
+            // The cast loses nothing: a net has at most 96 transitions.
             Look::Transitions => Ok(self.shape.transitions as u32),
             Look::Question => Ok(self.shape.question.into()),
             Look::Stands(p) => Ok(u32::from(flag_at(&self.shape.standing, p))),
@@ -288,7 +285,8 @@ impl Net<'_> {
         ensures { Answered result (view self.new) (view self.old) (arc_added (view self.old) side t p weight) }
     {
         self.check_arc(t, p)?;
-        self.write_arc(side.base(t) + p, weight)
+        // The cast loses nothing: a net has at most 96 transitions.
+        self.write_arc(side.base(t as u8) + p, weight)
     }
 
     pub(crate) fn ask(&mut self, question: u32) -> Result<(), NetFault>
@@ -362,7 +360,7 @@ impl<'a> Draft<'a> {
         self.net.arc(Side::Puts, t, p, weight)
     }
 
-    // Tells the question by its number.
+    // Tells the question by its number, since one that no question has is refused.
     pub fn question(&mut self, number: u32) -> Result<(), NetFault>
         ensures { Answered result (drafted self.new) (drafted self.old) (question_told (drafted self.old) number) }
     {

@@ -9,8 +9,8 @@ pub enum Question {
     Both,
 }
 
-// What is known of a net beside its sheet. Standing and support are two lists, since each is a list of its own in the definitions,
-// and a place that goes may have been in the support.
+// What is known of a net beside its sheet, in arrays of fixed size, since nothing is allocated. Standing and support are two lists,
+// since each is a list of its own in the definitions, and a place that goes may have been in the support.
 #[derive(Clone, Copy)]
 pub struct Shape {
     pub transitions: usize,
@@ -20,7 +20,8 @@ pub struct Shape {
     ghost few: { transitions ≤ 96 },
 }
 
-// A net over a lent sheet. The fields are open to the layers above, which rewrite the sheet in place.
+// A net over a lent sheet: a slice, since its owner may lend one of any size. The fields are open to the layers above, which rewrite
+// the sheet in place.
 #[derive(Drop)]
 pub struct Net<'a> {
     pub sheet: &'a mut [u32],
@@ -57,20 +58,18 @@ pub enum Layer {
     Session,
 }
 
-// Where a refusal arose: the layer that raised it, the byte where the refused command or step starts, and the count of those
-// before it in the call.
-#[derive(Clone, Copy, Debug, PartialEq, Eq)]
-pub struct Origin {
-    pub layer: Layer,
-    pub byte: usize,
-    pub count: usize,
-}
-
 // A place in the bytes of a call: the byte where a command or a step starts, and the count of those before it.
 #[derive(Clone, Copy, Debug, PartialEq, Eq)]
 pub struct Position {
     pub byte: usize,
     pub count: usize,
+}
+
+// Where a refusal arose: the layer that raised it, and the place of the refused command or step in the call.
+#[derive(Clone, Copy, Debug, PartialEq, Eq)]
+pub struct Origin {
+    pub layer: Layer,
+    pub at: Position,
 }
 
 // What a refusal tells: its number, as it is printed and as a customer's book chooses it, and where it arose.
@@ -81,7 +80,7 @@ pub struct Told {
 }
 
 // A lower layer's fault, and where it arose.
-#[derive(Debug, Drop)]
+#[derive(Clone, Copy, Debug, PartialEq, Eq, Drop)]
 pub struct Placed<F> {
     pub fault: F,
     pub origin: Origin,
