@@ -32,20 +32,16 @@ opcode b =
     (cond (b == 0x11) (Ok kind.Transition)
     (cond (b == 0x12) (Ok kind.ArcIn) (cond (b == 0x13) (Ok kind.ArcOut) (cond (b == 0x1f) (Ok kind.End) (Err Unknown)))))
 
--- How many operand bytes a command of a kind has, and the command of that kind at the front of the bytes.
-abbrev pub width : Opcode → ℕ
-width kind.Place = 5
-width kind.Transition = 0
-width kind.ArcIn = 4
-width kind.ArcOut = 4
-width kind.End = 1
+-- The command of a kind at the front of the bytes, if they hold a whole one.
+abbrev pub if_whole : ℕ → List ℕ → Command → Option Command
+if_whole width bs c = cond (nat_lt width (length bs)) (Some c) None
 
-abbrev pub parsed : Opcode → List ℕ → Command
-parsed kind.Place bs = Place (four bs 1) (one bs 5)
-parsed kind.Transition bs = Transition
-parsed kind.ArcIn bs = ArcIn (one bs 1) (one bs 2) (two bs 3)
-parsed kind.ArcOut bs = ArcOut (one bs 1) (one bs 2) (two bs 3)
-parsed kind.End bs = End (one bs 1)
+abbrev pub parsed : Opcode → List ℕ → Option Command
+parsed kind.Place bs = if_whole 5 bs (Place (four bs 1) (one bs 5))
+parsed kind.Transition bs = if_whole 0 bs Transition
+parsed kind.ArcIn bs = if_whole 4 bs (ArcIn (one bs 1) (one bs 2) (two bs 3))
+parsed kind.ArcOut bs = if_whole 4 bs (ArcOut (one bs 1) (one bs 2) (two bs 3))
+parsed kind.End bs = if_whole 1 bs (End (one bs 1))
 
 -- How many operand bytes follow the first byte of a command.
 abbrev pub operands : ℕ → Option ℕ

@@ -1,4 +1,4 @@
-// A command of a net stream, with its operands.
+// A command of a net stream, with its operands. The flag of a place and the question are numbers, since the draft refuses others than it knows.
 #[derive(Clone, Copy, Debug, PartialEq, Eq)]
 pub enum Command {
     Place(u32, u8),

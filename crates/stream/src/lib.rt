@@ -4,7 +4,7 @@
 ghost use Rattle.std.specs.Prelude.{◌≡◌, ◌+◌, ◌<◌, ◌^◌, true, length};
 ghost use Rattle.net.specs.States.{sized, Answered};
 ghost use Rattle.net.specs.Views.{drafted};
-ghost use Rattle.stream.specs.Streams.{opcode, width, parsed, decoded, size, applied, stepped, read_on, Stepped, Filled, Read, four, two};
+ghost use Rattle.stream.specs.Streams.{opcode, parsed, decoded, size, applied, stepped, read_on, Stepped, Filled, Read};
 ghost use Rattle.stream.specs.Written.{ReadsWhatIsWritten};
 
 mod command;
@@ -34,47 +34,25 @@ impl TryFrom<u8> for Opcode {
 }
 
 impl Opcode {
-    // How many operand bytes follow the first byte of the command.
-    fn width(self) -> usize
-        ensures { result ≡ width self }
-    {
-        match self {
-            Opcode::Place => 5,
-            Opcode::Transition => 0,
-            Opcode::ArcIn | Opcode::ArcOut => 4,
-            Opcode::End => 1,
-        }
-    }
-
-    // The command of this kind at the front of the bytes, which hold a whole one.
-    fn parse(self, bytes: &[u8]) -> Command
-        requires { width self < length bytes.now }
+    // The command of this kind at the front of the bytes, if they hold a whole one. Numbers have the most significant byte first.
+    fn parse(self, bytes: &[u8]) -> Option<Command>
         ensures { result ≡ parsed self bytes.now }
     {
-        match self {
-            Opcode::Place => Command::Place(four(bytes, 1), bytes[5]),
-            Opcode::Transition => Command::Transition,
-            Opcode::ArcIn => Command::ArcIn(bytes[1], bytes[2], two(bytes, 3)),
-            Opcode::ArcOut => Command::ArcOut(bytes[1], bytes[2], two(bytes, 3)),
-            Opcode::End => Command::End(bytes[1]),
+        match (self, bytes) {
+            (Opcode::Place, [_, a, b, c, d, flag, ..]) => {
+                Some(Command::Place(u32::from_be_bytes([*a, *b, *c, *d]), *flag))
+            }
+            (Opcode::Transition, [_, ..]) => Some(Command::Transition),
+            (Opcode::ArcIn, [_, t, p, a, b, ..]) => {
+                Some(Command::ArcIn(*t, *p, u16::from_be_bytes([*a, *b])))
+            }
+            (Opcode::ArcOut, [_, t, p, a, b, ..]) => {
+                Some(Command::ArcOut(*t, *p, u16::from_be_bytes([*a, *b])))
+            }
+            (Opcode::End, [_, question, ..]) => Some(Command::End(*question)),
+            _ => None,
         }
     }
-}
-
-// The number of two bytes at i, the most significant first.
-fn two(bytes: &[u8], i: usize) -> u16
-    requires { i + 1 < length bytes.now }
-    ensures { result ≡ two bytes.now i }
-{
-    u16::from_be_bytes([bytes[i], bytes[i + 1]])
-}
-
-// The number of four bytes at i, the most significant first.
-fn four(bytes: &[u8], i: usize) -> u32
-    requires { i + 3 < length bytes.now }
-    ensures { result ≡ four bytes.now i }
-{
-    u32::from_be_bytes([bytes[i], bytes[i + 1], bytes[i + 2], bytes[i + 3]])
 }
 
 // The command at the front of the bytes.
@@ -82,15 +60,11 @@ fn decode(bytes: &[u8]) -> Result<Command, Cause>
     ensures { result ≡ decoded bytes.now }
 {
     let first = bytes.first().ok_or(Cause::Short)?;
-    let code = Opcode::try_from(*first)?;
-    if bytes.len() <= code.width() {
-        return Err(Cause::Short);
-    }
-    Ok(code.parse(bytes))
+    Opcode::try_from(*first)?.parse(bytes).ok_or(Cause::Short)
 }
 
 impl Command {
-    // How many bytes the command has. A way back from a command to its code, for the width of that, would be one more table.
+    // How many bytes the command has.
     pub fn size(self) -> usize
         ensures { result ≡ size self }
     {
@@ -103,7 +77,7 @@ impl Command {
     }
 }
 
-// Does to the draft what the command says.
+// Does to the draft what the command says. A match, since each kind has operands of its own; a closure for each would be made in one.
 fn apply(draft: &mut Draft<'_>, c: Command) -> Result<(), NetFault>
     ensures { Answered result (drafted draft.new) (drafted draft.old) (applied (drafted draft.old) c) }
 {
@@ -142,6 +116,7 @@ fn step(draft: &mut Draft<'_>, bytes: &[u8], at: Position) -> Result<Command, Re
 }
 
 // Reads commands until the end command, and answers the bytes used. Where the bytes end before it, the next step is refused.
+// Each turn goes on by the length of its command, which no iterator over the bytes knows.
 fn fill(draft: &mut Draft<'_>, bytes: &[u8]) -> Result<usize, ReadFault>
     requires { sized (drafted draft.old) ≡ true }
     ensures { Filled result (drafted draft.new) (read_on (length bytes.now) (drafted draft.old) bytes.now 0 0) }
