@@ -13,11 +13,11 @@ use Rattle.report.specs.declared.line.Line.TheVariants.{Taken, Refused}
 use Rattle.report.specs.Lines.{BasicFault, place_lines, arc_lines, step_lines, end_lines}
 
 pub told_lines : (a b c : List Line) (used : ℕ) (f : SessionFault BasicFault) (t : Told) → t ≡ session_told (book_number refusal_number) f
-    → b ≡ a ++ (Taken t.origin.count ∷ []) → c ≡ b ++ (Refused t.number (used + t.origin.byte) ∷ []) → c ≡ a ++ step_lines used (Err f)
+    → b ≡ a ++ (Taken t.origin.at.count ∷ []) → c ≡ b ++ (Refused t.number (used + t.origin.at.byte) ∷ []) → c ≡ a ++ step_lines used (Err f)
 told_lines a b c used f t e h k =
-    k ∙ ap (λ (l : List Line). l ++ (Refused t.number (used + t.origin.byte) ∷ [])) h
-    ∙ append_assoc a (Taken t.origin.count ∷ []) (Refused t.number (used + t.origin.byte) ∷ [])
-    ∙ ap (λ (x : Told). a ++ (Taken x.origin.count ∷ Refused x.number (used + x.origin.byte) ∷ [])) e
+    k ∙ ap (λ (l : List Line). l ++ (Refused t.number (used + t.origin.at.byte) ∷ [])) h
+    ∙ append_assoc a (Taken t.origin.at.count ∷ []) (Refused t.number (used + t.origin.at.byte) ∷ [])
+    ∙ ap (λ (x : Told). a ++ (Taken x.origin.at.count ∷ Refused x.number (used + x.origin.at.byte) ∷ [])) e
 
 pub all_lines : (a b c d : List Line) (used : ℕ) (said : Result ℕ (SessionFault BasicFault)) (n o : State) (E : End BasicFault)
     → a ≡ [] → b ≡ a ++ step_lines used said → c ≡ b ++ place_lines n → d ≡ c ++ arc_lines o

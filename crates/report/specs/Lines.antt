@@ -71,7 +71,7 @@ BasicFault = BookFault Refusal 0x20
 -- The steps behind the net: how many were taken and, where one was refused, its number and the byte of the input where it starts.
 abbrev pub step_lines : ℕ → Result ℕ (SessionFault BasicFault) → List Line
 step_lines used (Ok n) = Taken n ∷ []
-step_lines used (Err f) = Taken f.origin.count ∷ Refused (session_told (book_number refusal_number) f).number (used + f.origin.byte) ∷ []
+step_lines used (Err f) = Taken f.origin.at.count ∷ Refused (session_told (book_number refusal_number) f).number (used + f.origin.at.byte) ∷ []
 
 -- Then the net that stands.
 abbrev pub end_lines : ℕ → End BasicFault → List Line
@@ -83,7 +83,7 @@ house = meaning basic_width basic_taken
 
 -- A refused net has one line: the number of the refusal, and the byte where the refused command starts.
 abbrev pub fault_line : ReadFault → Line
-fault_line f = Net (read_told f).number (read_told f).origin.byte
+fault_line f = Net (read_told f).number (read_told f).origin.at.byte
 
 abbrev pub reading_lines : Result Reading ReadFault → List ℕ → List Line
 reading_lines (Ok r) bs = end_lines r.used (fed house r.state (drop r.used bs))

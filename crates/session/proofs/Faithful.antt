@@ -132,7 +132,7 @@ module _ {F : Type 0} (m : Meaning F) where
   -- What a step of a feed took, and how a fault of it counts.
   abbrev Took : State → List ℕ → ℕ → Result Step (SessionFault F) → Type 0
   Took s bs count (Ok x) = Takes m s (take (step_length m.width bs) bs) x.state × (x.used ≡ step_length m.width bs)
-  Took s bs count (Err e) = e.origin.count ≡ count
+  Took s bs count (Err e) = e.origin.at.count ≡ count
 
   took_step : (s : State) (bs : List ℕ) (byte count n : ℕ) (r : Result State F) → front m.width bs ≡ Ok n → m.take_step s (take n bs) ≡ r
       → Took s bs count (with_used (by_book r byte count) n)
@@ -179,7 +179,7 @@ module _ {F : Type 0} (m : Meaning F) where
       if_leads s bs count (eqb (length bs) 0) _
       (go_leads (fed_from m bound) (fed_leads bound) s bs byte count (stepped m s bs byte count) (took s bs byte count))
 
-  feed_leads : (s : State) (bs : List ℕ) (b : Bool) (f : SessionFault F) → f.origin.count ≡ 0 → FedTo s bs 0 (cond b (fed_from m (length bs) s bs 0 0) (ended s (Err f)))
+  feed_leads : (s : State) (bs : List ℕ) (b : Bool) (f : SessionFault F) → f.origin.at.count ≡ 0 → FedTo s bs 0 (cond b (fed_from m (length bs) s bs 0 0) (ended s (Err f)))
   feed_leads s bs true f h = fed_leads (length bs) s bs 0 0
   feed_leads s bs false f h = (0, h, none)
 

@@ -33,7 +33,7 @@ if_taken bs (Err e) = []
 
 abbrev pub counted : {F : Type 0} → Result ℕ (SessionFault F) → ℕ
 counted (Ok n) = n
-counted (Err e) = e.origin.count
+counted (Err e) = e.origin.at.count
 
 abbrev pub first_steps : {F : Type 0} → Meaning F → ℕ → List ℕ → List (List ℕ)
 first_steps m zero bs = []

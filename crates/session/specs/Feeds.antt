@@ -75,7 +75,7 @@ fed m s bs = cond (sized s) (fed_from m (length bs) s bs 0 0) (ended s (Err (net
 -- A refused step starts within the bytes, or at their end.
 abbrev pub PlaceWithin : {F : Type 0} → Result ℕ (SessionFault F) → ℕ → Type 0
 PlaceWithin (Ok n) len = Unit {0}
-PlaceWithin (Err e) len = e.origin.byte ≤ len
+PlaceWithin (Err e) len = e.origin.at.byte ≤ len
 
 -- A look.
 abbrev pub by_net : {X F : Type 0} → Result X NetFault → Result X (SessionFault F)

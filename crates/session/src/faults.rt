@@ -13,7 +13,8 @@ pub enum Cause<F> {
     Book(F),
 }
 
-// The fault of no book: a look asks none, and its refusals never hold it. No one outside can make it.
+// The fault of no book: a look asks none, and its refusals never hold it. No one outside can make it; its number, which the type of a
+// look's refusal asks for, is none of a refusal.
 #[derive(Clone, Copy, Debug, PartialEq, Eq)]
 pub struct NoBook(());
 
@@ -32,7 +33,8 @@ pub struct SessionFault<F> {
     pub origin: Origin,
 }
 
-// A book's fault, with the byte where the refused step starts and the count of the steps before it.
+// A book's fault, with the byte where the refused step starts and the count of the steps before it. It is a type of its own beside
+// `Placed`, since a `From` of that with any book's fault would overlap those with the net's fault and with a misfit.
 #[derive(Clone, Copy, Debug, PartialEq, Eq, Drop)]
 pub struct BookRefusal<F> {
     pub fault: F,
