@@ -1,5 +1,5 @@
 -- House books: a step is framed by its widths, decoded, and judged by the tables of the steps.
-use Rattle.std.specs.Prelude.{ℕ, ◌+◌, ◌*◌, Bool, cond, List, take, drop, is_some, Ok, Err, Result, slice_index}
+use Rattle.std.specs.Prelude.{ℕ, ◌+◌, ◌*◌, Bool, cond, ◌||◌, List, take, drop, is_some, Some, None, Ok, Err, Option, Result, ◌==◌, nat_lt, slice_index}
 use Rattle.net.specs.declared.net.NetFault.{NetFault}
 use Rattle.net.specs.Refusals.{judged}
 use Rattle.net.specs.States.{State}
@@ -11,8 +11,10 @@ use Rattle.books.specs.declared.faults.Misfit.TheVariants.{Unknown}
 use Rattle.books.specs.declared.faults.BookFault.{BookFault}
 use Rattle.books.specs.declared.step.Step.{Step}
 use Rattle.books.specs.declared.step.Step.TheVariants as cases
+use Rattle.books.specs.declared.step.Kind.{Kind}
+use Rattle.books.specs.declared.step.Kind.TheVariants as kinds
 use Rattle.books.specs.Faults.{from_net, from_bytes, from_step}
-use Rattle.books.specs.Frames.{Widths, framed}
+use Rattle.books.specs.Frames.{Widths, frame_table, framed}
 
 -- Operands of one and two bytes, the higher first.
 abbrev pub one : List ℕ → ℕ → ℕ
@@ -42,6 +44,85 @@ plain (cases.PreAgglomerate p) = steps.pre_agglomerate p
 plain (cases.FreeAgglomerate p) = steps.free_agglomerate p
 plain (cases.FireAhead t k) = steps.fire_ahead t k
 plain (cases.FusePlaces p q a b) = steps.fuse_places p q a b
+
+-- The kind of a step, by its first byte.
+abbrev pub kind : ℕ → Result Kind Misfit
+kind b =
+    cond (b == 0x20) (Ok kinds.DropDominated)
+    (cond (b == 0x21) (Ok kinds.DropMultiple)
+    (cond (b == 0x22) (Ok kinds.DropComposed)
+    (cond (b == 0x23) (Ok kinds.DropDraining)
+    (cond (b == 0x24) (Ok kinds.DropStarved)
+    (cond (b == 0x25) (Ok kinds.KeepSourceless)
+    (cond (b == 0x26) (Ok kinds.RemovePlentiful)
+    (cond (b == 0x27) (Ok kinds.RemoveImplied)
+    (cond (b == 0x28) (Ok kinds.DropSiphon)
+    (cond (b == 0x29) (Ok kinds.LimitTo)
+    (cond (b == 0x2a) (Ok kinds.PostAgglomerate)
+    (cond (b == 0x2b) (Ok kinds.PreAgglomerate)
+    (cond (b == 0x2c) (Ok kinds.FreeAgglomerate)
+    (cond (b == 0x2d) (Ok kinds.FireAhead)
+    (cond (b == 0x2e) (Ok kinds.FusePlaces) (Err Unknown)))))))))))))))
+
+-- How many bytes the operands of each kind have: one for a transition or a place, two for a factor, eight for a set.
+abbrev pub kind_width : Kind → ℕ
+kind_width kinds.DropDominated = 2
+kind_width kinds.DropMultiple = 4
+kind_width kinds.DropComposed = 3
+kind_width kinds.DropDraining = 1
+kind_width kinds.DropStarved = 2
+kind_width kinds.KeepSourceless = 1
+kind_width kinds.RemovePlentiful = 1
+kind_width kinds.RemoveImplied = 4
+kind_width kinds.DropSiphon = 8
+kind_width kinds.LimitTo = 8
+kind_width kinds.PostAgglomerate = 1
+kind_width kinds.PreAgglomerate = 1
+kind_width kinds.FreeAgglomerate = 1
+kind_width kinds.FireAhead = 3
+kind_width kinds.FusePlaces = 4
+
+-- The step of a kind in the bytes of a whole step.
+abbrev pub parsed : Kind → List ℕ → steps.Step
+parsed kinds.DropDominated bs = steps.drop_dominated (one bs 1) (one bs 2)
+parsed kinds.DropMultiple bs = steps.drop_multiple (one bs 1) (one bs 2) (two bs 3)
+parsed kinds.DropComposed bs = steps.drop_composed (one bs 1) (one bs 2) (one bs 3)
+parsed kinds.DropDraining bs = steps.drop_draining (one bs 1)
+parsed kinds.DropStarved bs = steps.drop_starved (one bs 1) (one bs 2)
+parsed kinds.KeepSourceless bs = steps.keep_sourceless (one bs 1)
+parsed kinds.RemovePlentiful bs = steps.remove_plentiful (one bs 1)
+parsed kinds.RemoveImplied bs = steps.remove_implied (one bs 1) (one bs 2) (two bs 3)
+parsed kinds.DropSiphon bs = steps.drop_siphon (set_in bs)
+parsed kinds.LimitTo bs = steps.limit_to (set_in bs)
+parsed kinds.PostAgglomerate bs = steps.post_agglomerate (one bs 1)
+parsed kinds.PreAgglomerate bs = steps.pre_agglomerate (one bs 1)
+parsed kinds.FreeAgglomerate bs = steps.free_agglomerate (one bs 1)
+parsed kinds.FireAhead bs = steps.fire_ahead (one bs 1) (two bs 2)
+parsed kinds.FusePlaces bs = steps.fuse_places (one bs 1) (one bs 2) (one bs 3) (one bs 4)
+
+-- The step in the bytes of a whole step. No step begins with another byte than those of the kinds; the last kind stands in for it.
+abbrev pub kind_or : Result Kind Misfit → Kind
+kind_or (Ok k) = k
+kind_or (Err e) = kinds.FusePlaces
+
+abbrev pub step_of : List ℕ → steps.Step
+step_of bs = parsed (kind_or (kind (one bs 0))) bs
+
+-- The widths of a book that owns the bytes from `first` to `last`.
+abbrev pub width_of_kind : Result Kind Misfit → Option ℕ
+width_of_kind (Ok k) = Some (kind_width k)
+width_of_kind (Err e) = None
+
+abbrev pub owned_width : ℕ → ℕ → Widths
+owned_width first last b = cond (nat_lt b first || nat_lt last b) None (width_of_kind (kind b))
+
+-- The step that the bytes are, if they are one whole step of that book.
+abbrev pub owned_step : ℕ → ℕ → List ℕ → Result steps.Step Misfit
+owned_step first last bs = judged (frame_table (owned_width first last) bs) (step_of bs)
+
+abbrev pub plainly : Result Step Misfit → Result steps.Step Misfit
+plainly (Ok x) = Ok (plain x)
+plainly (Err e) = Err e
 
 -- A result with its fault in another's words.
 abbrev pub with_fault : {X E F : Type 0} → (E → F) → Result X E → Result X F
