@@ -25,7 +25,7 @@ fault_ok {X} f (Ok x) t h = ap (λ (y : X). Ok y) (ok_same h)
 fault_ok f (Err e) t h = absurd (ok_not_err h)
 
 -- A table refuses alike, whatever it would let pass.
-refused_alike : {F X Y : Type 0} (cs : List (Check F)) (x : X) (y : Y) (e : F) → judged cs x ≡ Err e → judged cs y ≡ Err e
+pub refused_alike : {F X Y : Type 0} (cs : List (Check F)) (x : X) (y : Y) (e : F) → judged cs x ≡ Err e → judged cs y ≡ Err e
 refused_alike [] x y e h = absurd (ok_not_err (sym h))
 refused_alike {F} {X} {Y} (c ∷ cs) x y e h = go (λ k. refused_alike cs x y e k) c.holds h
   where

@@ -1,2 +1,1 @@
 pub mod Limiting
-pub mod Owning

@@ -5,16 +5,12 @@ use Rattle.theory.specs.Steps as steps
 use Rattle.theory.specs.declared.refusal.Refusal.{Refusal}
 use Rattle.books.specs.declared.faults.BookFault.{BookFault}
 use Rattle.books.specs.Frames.{Widths}
-use Rattle.books.specs.House.{one, set_in, book_taken}
+use Rattle.books.specs.House.{owned_width, step_of, book_taken}
 
--- The width of the operands: a set takes eight bytes.
+-- The width of the operands.
 abbrev pub set_width : Widths
-set_width b = cond (b == 0x28) (Some 8) (cond (b == 0x29) (Some 8) None)
-
--- The step in the bytes of a whole step.
-abbrev pub set_step : List ℕ → steps.Step
-set_step bs = cond (one bs 0 == 0x28) (steps.drop_siphon (set_in bs)) (steps.limit_to (set_in bs))
+set_width b = owned_width 0x28 0x29 b
 
 -- What the book gives.
 abbrev pub set_taken : State → List ℕ → Result State (BookFault Refusal 0x28)
-set_taken s bs = book_taken set_width set_step s bs
+set_taken s bs = book_taken set_width step_of s bs

@@ -6,20 +6,20 @@ ghost use Rattle.net.specs.Refusals.{judged, Passes};
 ghost use Rattle.net.specs.Looks.{sheet_checks};
 ghost use Rattle.net.specs.States.{view, Answered};
 ghost use Rattle.books.specs.Faults.{book_number, from_net, from_bytes, from_step};
-ghost use Rattle.books.specs.House.{plain, owns, own_checked};
-ghost use Rattle.sets.specs.Sets.{set_width, set_step, set_taken};
+ghost use Rattle.books.specs.House.{plain, owns, own_checked, step_of};
+ghost use Rattle.sets.specs.Sets.{set_width, set_taken};
 ghost use Rattle.theory.specs.Rewrites.{keeping, limiting};
 ghost use Rattle.rewrites.specs.Rows.{limited_to};
 ghost use Rattle.theory.specs.Steps.{refusal_number, table, next, drop_siphon, limit_to};
 ghost use Rattle.theory.specs.Tests.{member};
 ghost use Rattle.books.proofs.Housing.{house_keeps, house_refuses};
-ghost use Rattle.std.proofs.Common.{rules};
+ghost use Rattle.books.proofs.Owning.{narrow};
 
 mod conditions;
 
+use books::Book;
 use books::faults::{BookFault, Misfit};
-use books::step::Step;
-use books::{Book, byte_at, frame};
+use books::step::{Owned, Step};
 use checks::is_reach_only;
 use conditions::{
     Spares, StaysInside, has_member, holds_support, is_dry, is_siphon, is_sufficient, members_stand,
@@ -74,28 +74,11 @@ fn limit_net(net: &mut Net<'_>, set: &[u8; 8]) -> Result<(), NetFault>
     limit_places(net, set)
 }
 
-// The operand width for a first byte that this book owns.
-fn set_width(first: u8) -> Option<u8>
-    ensures { result ≡ set_width first }
-{
-    match first {
-        0x28 | 0x29 => Some(8),
-        _ => None,
-    }
-}
-
-// The step in the nine bytes of a whole step. It borrows the eight bytes of its set. Its first byte is a number here and in the
-// widths: a kind between byte and step would name each step once more.
-fn decode<'a>(bytes: &'a [u8]) -> Step<'a>
-    requires { length bytes.now ≡ 9 }
-    ensures { plain result ≡ set_step bytes.now }
-{
-    let set = bytes[1..].first_chunk().unwrap();
-    match bytes[0] {
-        0x28 => Step::DropSiphon(set),
-        _ => Step::LimitTo(set),
-    }
-}
+// The first bytes that this book owns.
+const OWNED: Owned = Owned {
+    first: 0x28,
+    last: 0x29,
+};
 
 // The questions of a decoded step of this book; one of another book is unknown here.
 fn check(net: &Net<'_>, step: Step<'_>) -> Result<(), SetFault>
@@ -118,7 +101,7 @@ fn rewrite(net: &mut Net<'_>, step: Step<'_>) -> Result<(), NetFault>
     match step {
         Step::DropSiphon(set) => keep_where(net, &Spares { set }),
         Step::LimitTo(set) => limit_net(net, set),
-        _ => Ok(()),
+        _ => unreachable!(),
     }
 }
 
@@ -137,20 +120,19 @@ impl Book for Sets {
 
     ghost taken = { set_taken };
 
-    ghost keeps = { house_keeps from_net from_bytes from_step set_width set_step };
+    ghost keeps = { house_keeps from_net from_bytes from_step set_width step_of };
 
-    ghost narrow = { Prim.search rules };
+    ghost narrow = { narrow 0x28 0x29 };
 
-    ghost refuses = { house_refuses from_net from_bytes from_step set_width set_step (book_number refusal_number) (λ e. refl) };
+    ghost refuses = { house_refuses from_net from_bytes from_step set_width step_of (book_number refusal_number) (λ e. refl) };
 
     fn width(&self, first: u8) -> Option<u8> {
-        set_width(first)
+        OWNED.width(first)
     }
 
     fn take(&self, net: &mut Net<'_>, step: &[u8]) -> Result<(), SetFault> {
         net.check_size()?;
-        frame(set_width(byte_at(step, 0)), step)?;
-        let step = decode(step);
+        let step = OWNED.step(step)?;
         check(net, step)?;
         rewrite(net, step)?;
         Ok(())
