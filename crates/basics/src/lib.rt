@@ -5,20 +5,20 @@ ghost use Rattle.std.specs.Prelude.{◌≡◌, true, refl};
 ghost use Rattle.net.specs.Refusals.{judged, Passes};
 ghost use Rattle.net.specs.Looks.{sheet_checks};
 ghost use Rattle.net.specs.States.{view, stands, Answered};
-ghost use Rattle.basics.specs.Basics.{basic_width, basic_step, basic_taken};
+ghost use Rattle.basics.specs.Basics.{basic_width, basic_taken};
 ghost use Rattle.books.specs.Faults.{book_number, from_net, from_bytes, from_step};
-ghost use Rattle.books.specs.House.{plain, owns, own_checked};
+ghost use Rattle.books.specs.House.{plain, owns, own_checked, step_of};
 ghost use Rattle.theory.specs.Rewrites.{dropping, keeping_only, leaving};
 ghost use Rattle.theory.specs.Steps.{refusal_number, table, next, drop_dominated, drop_multiple, drop_composed, drop_draining, drop_starved, keep_sourceless, remove_plentiful, remove_implied};
 ghost use Rattle.books.proofs.Housing.{house_keeps, house_refuses};
-ghost use Rattle.std.proofs.Common.{rules};
+ghost use Rattle.books.proofs.Owning.{narrow};
 
 mod conditions;
 mod kept;
 
+use books::Book;
 use books::faults::{BookFault, Misfit};
-use books::step::Step;
-use books::{Book, byte_at, frame, two_bytes};
+use books::step::{Owned, Step};
 use checks::{asks_reach, asks_standstill, is_there, stands_at, supports_at};
 use conditions::{
     covers, has_always_enough, is_composed, is_dominated, is_draining, is_implied, is_multiple,
@@ -197,38 +197,14 @@ fn leave_place(net: &mut Net<'_>, p: u8) -> Result<(), NetFault>
     remove_place(net, usize::from(p))
 }
 
-// The operand width for a first byte that this book owns.
-fn basic_width(first: u8) -> Option<u8>
-    ensures { result ≡ basic_width first }
-{
-    match first {
-        0x20 | 0x24 => Some(2),
-        0x21 | 0x27 => Some(4),
-        0x22 => Some(3),
-        0x23 | 0x25 | 0x26 => Some(1),
-        _ => None,
-    }
-}
-
-// The step in the bytes of a whole step. Its first byte is a number here and in the widths: a kind between byte and step would name each step once more.
-fn decode<'a>(bytes: &'a [u8]) -> Step<'a>
-    ensures { plain result ≡ basic_step bytes.now }
-{
-    let a = byte_at(bytes, 1);
-    let b = byte_at(bytes, 2);
-    match byte_at(bytes, 0) {
-        0x20 => Step::DropDominated(a, b),
-        0x21 => Step::DropMultiple(a, b, two_bytes(bytes, 3)),
-        0x22 => Step::DropComposed(a, b, byte_at(bytes, 3)),
-        0x23 => Step::DropDraining(a),
-        0x24 => Step::DropStarved(a, b),
-        0x25 => Step::KeepSourceless(a),
-        0x26 => Step::RemovePlentiful(a),
-        _ => Step::RemoveImplied(a, b, two_bytes(bytes, 3)),
-    }
-}
+// The first bytes that this book owns.
+const OWNED: Owned = Owned {
+    first: 0x20,
+    last: 0x27,
+};
 
 // The questions of a decoded step of this book; one of another book is unknown here.
+// A match here and in the rewrite: each step has operands of its own, and a closure for each would be made in a match.
 fn check(net: &Net<'_>, step: Step<'_>) -> Result<(), BasicFault>
     ensures { result ≡ own_checked from_bytes from_step basic_width (view net.now) (plain step.entry) }
 {
@@ -260,7 +236,7 @@ fn rewrite(net: &mut Net<'_>, step: Step<'_>) -> Result<(), NetFault>
         | Step::DropStarved(t, _) => drop_transition(net, t),
         Step::KeepSourceless(t) => keep_transition(net, t),
         Step::RemovePlentiful(p) | Step::RemoveImplied(p, _, _) => leave_place(net, p),
-        _ => Ok(()),
+        _ => unreachable!(),
     }
 }
 
@@ -279,20 +255,19 @@ impl Book for Basics {
 
     ghost taken = { basic_taken };
 
-    ghost keeps = { house_keeps from_net from_bytes from_step basic_width basic_step };
+    ghost keeps = { house_keeps from_net from_bytes from_step basic_width step_of };
 
-    ghost narrow = { Prim.search rules };
+    ghost narrow = { narrow 0x20 0x27 };
 
-    ghost refuses = { house_refuses from_net from_bytes from_step basic_width basic_step (book_number refusal_number) (λ e. refl) };
+    ghost refuses = { house_refuses from_net from_bytes from_step basic_width step_of (book_number refusal_number) (λ e. refl) };
 
     fn width(&self, first: u8) -> Option<u8> {
-        basic_width(first)
+        OWNED.width(first)
     }
 
     fn take(&self, net: &mut Net<'_>, step: &[u8]) -> Result<(), BasicFault> {
         net.check_size()?;
-        frame(basic_width(byte_at(step, 0)), step)?;
-        let step = decode(step);
+        let step = OWNED.step(step)?;
         check(net, step)?;
         rewrite(net, step)?;
         Ok(())

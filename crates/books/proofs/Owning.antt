@@ -4,7 +4,7 @@ use Rattle.std.proofs.lemmas.Bool.{both_ways, eqb-true}
 use Rattle.net.specs.declared.net.NetFault.{NetFault}
 use Rattle.net.specs.Looks.{measured, sheet_checks}
 use Rattle.net.specs.Refusals.{judged}
-use Rattle.net.specs.States.{State, Answered}
+use Rattle.net.specs.States.{State, said, left, Answered}
 use Rattle.net.proofs.Tables.{ok_same, ok_not_err, passed, passing}
 use Rattle.theory.specs.declared.refusal.Refusal.{Refusal}
 use Rattle.theory.specs.Steps as steps
@@ -15,7 +15,7 @@ use Rattle.books.specs.declared.step.Kind.{Kind}
 use Rattle.books.specs.declared.step.Kind.TheVariants as kinds
 use Rattle.books.specs.Frames.{Narrow, frame_table, framed}
 use Rattle.books.proofs.Housing.{refused_alike, house_done, house_refused}
-use Rattle.books.specs.House.{one, kind, kind_width, parsed, kind_or, step_of, width_of_kind, owned_width, owned_step, byte_of, owns, own_checked, book_taken}
+use Rattle.books.specs.House.{one, kind, kind_width, parsed, kind_or, step_of, width_of_kind, owned_width, owned_step, byte_of, owns, own_checked, book_taken, with_fault, after}
 
 few : (k : Kind) → kind_width k ≤ 16
 few k = search rules
@@ -80,18 +80,31 @@ module _ (first last : ℕ) (bs : List ℕ) where
   pub no_step : (e : Misfit) → Err e ≡ owned_step first last bs → framed (owned_width first last) bs ≡ Err e
   no_step e h = refused_alike (frame_table (owned_width first last) bs) (step_of bs) tt e (sym h)
 
--- What the take of a house book gives, once its bytes are a step: the next state, or the refusal of the step with nothing changed.
-module _ {n : ℕ} (first last : ℕ) (s : State) (bs : List ℕ) (x : steps.Step) (m : Ok tt ≡ measured s.sheet) (r : Ok x ≡ owned_step first last bs) where
+-- What the take of a house book gives: of bytes that are no step of it, their misfit; else the next state, or the refusal of the step with
+-- nothing changed.
+module _ {n : ℕ} (first last : ℕ) (s : State) (bs : List ℕ) (m : Ok tt ≡ measured s.sheet) where
   abbrev Taken : Result Unit (BookFault Refusal n) → State → Type 0
   Taken q t = Answered q t s (book_taken (owned_width first last) step_of s bs)
 
-  pub step_done : (q : Result Unit NetFault) (t : State) → Ok tt ≡ own_checked (from_bytes {first = n}) from_step (owned_width first last) s x
-      → Answered q t s (judged (sheet_checks s) (steps.next s x)) → Taken (Ok tt) t
-  step_done q t h a =
-      let p = read_step first last bs x r in
-      (house_done (from_net {first = n}) from_bytes from_step (owned_width first last) step_of s bs x (sym m) p.0 p.1 q t (sym h) a).1
+  pub bytes_refused : (e : Misfit) → Err e ≡ owned_step first last bs → Taken (Err (from_bytes e)) s
+  bytes_refused e h = record { answer = sym (ap said gives); state = sym (ap (left s) gives) }
+    where
+      judging : Result State (BookFault Refusal n)
+      judging = with_fault from_step (steps.step s (step_of bs))
 
-  pub step_refused : (y : BookFault Refusal n) → Err y ≡ own_checked from_bytes from_step (owned_width first last) s x → Taken (Err y) s
-  step_refused y h =
-      let p = read_step first last bs x r in
-      house_refused (from_net {first = n}) from_bytes from_step (owned_width first last) step_of s bs x (sym m) p.0 p.1 y (own first last bs p.0) (sym h)
+      gives : book_taken {first = n} (owned_width first last) step_of s bs ≡ Err (from_bytes e)
+      gives =
+          ap (λ (q : Result Unit NetFault). after from_net q (after from_bytes (framed (owned_width first last) bs) judging)) (sym m)
+          ∙ ap (λ (q : Result Unit Misfit). after from_bytes q judging) (no_step first last bs e h)
+
+  module _ (x : steps.Step) (r : Ok x ≡ owned_step first last bs) where
+    pub step_done : (q : Result Unit NetFault) (t : State) → Ok tt ≡ own_checked (from_bytes {first = n}) from_step (owned_width first last) s x
+        → Answered q t s (judged (sheet_checks s) (steps.next s x)) → Taken (Ok tt) t
+    step_done q t h a =
+        let p = read_step first last bs x r in
+        (house_done (from_net {first = n}) from_bytes from_step (owned_width first last) step_of s bs x (sym m) p.0 p.1 q t (sym h) a).1
+
+    pub step_refused : (y : BookFault Refusal n) → Err y ≡ own_checked from_bytes from_step (owned_width first last) s x → Taken (Err y) s
+    step_refused y h =
+        let p = read_step first last bs x r in
+        house_refused (from_net {first = n}) from_bytes from_step (owned_width first last) step_of s bs x (sym m) p.0 p.1 y (own first last bs p.0) (sym h)

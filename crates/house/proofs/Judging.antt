@@ -7,14 +7,14 @@ use Rattle.theory.specs.declared.refusal.Refusal.{Refusal}
 use Rattle.theory.specs.Steps as steps
 use Rattle.books.specs.Faults.{from_net, from_bytes, from_step}
 use Rattle.books.specs.Frames.{Widths, framed}
-use Rattle.books.specs.House.{with_fault, book_taken}
+use Rattle.books.specs.House.{with_fault, step_of, book_taken}
 use Rattle.books.specs.Joins.{either_number, from_first, from_second, joined_taken}
 use Rattle.books.proofs.Housing.{house_whole, house_takes}
 use Rattle.books.specs.Joining.{joined_keeps}
-use Rattle.basics.specs.Basics.{basic_width, basic_step, basic_taken}
-use Rattle.merges.specs.Merges.{merge_width, merge_step, merge_taken}
-use Rattle.moves.specs.Moves.{move_width, move_step, move_taken}
-use Rattle.sets.specs.Sets.{set_width, set_step, set_taken}
+use Rattle.basics.specs.Basics.{basic_width, basic_taken}
+use Rattle.merges.specs.Merges.{merge_width, merge_taken}
+use Rattle.moves.specs.Moves.{move_width, move_taken}
+use Rattle.sets.specs.Sets.{set_width, set_taken}
 use Rattle.house.specs.House.{fault_number, later_number, later_width, taken_later, behind_number, behind_width, taken_behind, house_number, taken_by_house, encoded, numbered, JudgesSteps, TakesSteps}
 
 -- Where a book stands among joined ones, the number of its refusal stays.
@@ -62,33 +62,33 @@ module _ (s : State) (x : steps.Step) (z : sized s ≡ true) where
   abbrev JudgedBy : {F : Type 0} → (F → ℕ) → (State → List ℕ → Result State F) → Type 0
   JudgedBy number taken = numbered number (taken s (encoded x)) ≡ numbered steps.refusal_number (steps.step s x)
 
-  to_basics : owns basic_width (encoded x) ≡ true → framed basic_width (encoded x) ≡ Ok tt → basic_step (encoded x) ≡ x
+  to_basics : owns basic_width (encoded x) ≡ true → framed basic_width (encoded x) ≡ Ok tt → step_of (encoded x) ≡ x
       → JudgedBy house_number taken_by_house
   to_basics o f e =
       in_first (fault_number {first = 0x20}) behind_number basic_width basic_taken taken_behind s (encoded x) o
-      ∙ by_book 0x20 basic_width basic_step s (encoded x) x z f e
+      ∙ by_book 0x20 basic_width step_of s (encoded x) x z f e
 
   past_basics : owns basic_width (encoded x) ≡ false → JudgedBy behind_number taken_behind → JudgedBy house_number taken_by_house
   past_basics n e = in_second (fault_number {first = 0x20}) behind_number basic_width basic_taken taken_behind s (encoded x) n ∙ e
 
-  to_sets : owns set_width (encoded x) ≡ true → framed set_width (encoded x) ≡ Ok tt → set_step (encoded x) ≡ x → JudgedBy behind_number taken_behind
+  to_sets : owns set_width (encoded x) ≡ true → framed set_width (encoded x) ≡ Ok tt → step_of (encoded x) ≡ x → JudgedBy behind_number taken_behind
   to_sets o f e =
       in_first (fault_number {first = 0x28}) later_number set_width set_taken taken_later s (encoded x) o
-      ∙ by_book 0x28 set_width set_step s (encoded x) x z f e
+      ∙ by_book 0x28 set_width step_of s (encoded x) x z f e
 
   past_sets : owns set_width (encoded x) ≡ false → JudgedBy later_number taken_later → JudgedBy behind_number taken_behind
   past_sets n e = in_second (fault_number {first = 0x28}) later_number set_width set_taken taken_later s (encoded x) n ∙ e
 
-  to_merges : owns merge_width (encoded x) ≡ true → framed merge_width (encoded x) ≡ Ok tt → merge_step (encoded x) ≡ x
+  to_merges : owns merge_width (encoded x) ≡ true → framed merge_width (encoded x) ≡ Ok tt → step_of (encoded x) ≡ x
       → JudgedBy later_number taken_later
   to_merges o f e =
       in_first (fault_number {first = 0x2a}) (fault_number {first = 0x2d}) merge_width merge_taken move_taken s (encoded x) o
-      ∙ by_book 0x2a merge_width merge_step s (encoded x) x z f e
+      ∙ by_book 0x2a merge_width step_of s (encoded x) x z f e
 
-  to_moves : owns merge_width (encoded x) ≡ false → framed move_width (encoded x) ≡ Ok tt → move_step (encoded x) ≡ x → JudgedBy later_number taken_later
+  to_moves : owns merge_width (encoded x) ≡ false → framed move_width (encoded x) ≡ Ok tt → step_of (encoded x) ≡ x → JudgedBy later_number taken_later
   to_moves n f e =
       in_second (fault_number {first = 0x2a}) (fault_number {first = 0x2d}) merge_width merge_taken move_taken s (encoded x) n
-      ∙ by_book 0x2d move_width move_step s (encoded x) x z f e
+      ∙ by_book 0x2d move_width step_of s (encoded x) x z f e
 
 pub judges_steps : JudgesSteps
 judges_steps s (steps.drop_dominated t u) z w = to_basics s (steps.drop_dominated t u) z refl refl refl
@@ -118,12 +118,12 @@ judges_steps s (steps.fuse_places p q a b) z w =
 pub takes_steps : TakesSteps
 takes_steps s t bs h =
     joined_keeps (fault_number {first = 0x20}) behind_number basic_width behind_width basic_taken taken_behind IsStep s t bs
-    (λ k. (basic_step bs, house_takes (from_net {first = 0x20}) from_bytes from_step basic_width basic_step s t bs k))
+    (λ k. (step_of bs, house_takes (from_net {first = 0x20}) from_bytes from_step basic_width step_of s t bs k))
     (joined_keeps (fault_number {first = 0x28}) later_number set_width later_width set_taken taken_later IsStep s t bs
-    (λ k. (set_step bs, house_takes (from_net {first = 0x28}) from_bytes from_step set_width set_step s t bs k))
+    (λ k. (step_of bs, house_takes (from_net {first = 0x28}) from_bytes from_step set_width step_of s t bs k))
     (joined_keeps (fault_number {first = 0x2a}) (fault_number {first = 0x2d}) merge_width move_width merge_taken move_taken IsStep s t bs
-    (λ k. (merge_step bs, house_takes (from_net {first = 0x2a}) from_bytes from_step merge_width merge_step s t bs k))
-    (λ k. (move_step bs, house_takes (from_net {first = 0x2d}) from_bytes from_step move_width move_step s t bs k)))) h
+    (λ k. (step_of bs, house_takes (from_net {first = 0x2a}) from_bytes from_step merge_width step_of s t bs k))
+    (λ k. (step_of bs, house_takes (from_net {first = 0x2d}) from_bytes from_step move_width step_of s t bs k)))) h
   where
     IsStep : State → Type 0
     IsStep u = (x : steps.Step) × (steps.step s x ≡ Ok u)

@@ -6,19 +6,19 @@ ghost use Rattle.net.specs.Refusals.{judged, Passes};
 ghost use Rattle.net.specs.Looks.{sheet_checks};
 ghost use Rattle.net.specs.States.{view, Answered};
 ghost use Rattle.books.specs.Faults.{book_number, from_net, from_bytes, from_step};
-ghost use Rattle.books.specs.House.{plain, owns, own_checked};
-ghost use Rattle.merges.specs.Merges.{merge_width, merge_step, merge_taken, first_lines, last_lines};
+ghost use Rattle.books.specs.House.{plain, owns, own_checked, step_of};
+ghost use Rattle.merges.specs.Merges.{merge_width, merge_taken, first_lines, last_lines};
 ghost use Rattle.products.specs.Products.{product_row};
 ghost use Rattle.theory.specs.Rewrites.{merging};
 ghost use Rattle.theory.specs.Steps.{refusal_number, table, next, merge_checks, post_agglomerate, pre_agglomerate, free_agglomerate};
 ghost use Rattle.books.proofs.Housing.{house_keeps, house_refuses};
-ghost use Rattle.std.proofs.Common.{rules};
+ghost use Rattle.books.proofs.Owning.{narrow};
 
 mod conditions;
 
+use books::Book;
 use books::faults::{BookFault, Misfit};
-use books::step::Step;
-use books::{Book, byte_at, frame};
+use books::step::{Owned, Step};
 use checks::{is_reach_only, mark_of, stands_at, supports_at};
 use conditions::{
     are_free_consumers, are_free_feeders, are_post_consumers, are_post_weights, are_pre_feeders,
@@ -116,29 +116,14 @@ fn merge_products(net: &mut Net<'_>, kind: Kind, p: u8) -> Result<(), NetFault>
     merge(net, kind, p)
 }
 
-// The operand width for a first byte that this book owns.
-fn merge_width(first: u8) -> Option<u8>
-    ensures { result ≡ merge_width first }
-{
-    match first {
-        0x2a | 0x2b | 0x2c => Some(1),
-        _ => None,
-    }
-}
-
-// The step in the bytes of a whole step. Its first byte is a number here and in the widths: a kind between byte and step would name each step once more.
-fn decode<'a>(bytes: &'a [u8]) -> Step<'a>
-    ensures { plain result ≡ merge_step bytes.now }
-{
-    let p = byte_at(bytes, 1);
-    match byte_at(bytes, 0) {
-        0x2a => Step::PostAgglomerate(p),
-        0x2b => Step::PreAgglomerate(p),
-        _ => Step::FreeAgglomerate(p),
-    }
-}
+// The first bytes that this book owns.
+const OWNED: Owned = Owned {
+    first: 0x2a,
+    last: 0x2c,
+};
 
 // The questions of a decoded step of this book; one of another book is unknown here.
+// A match here and in the rewrite: each step has operands of its own, and a closure for each would be made in a match.
 fn check(net: &Net<'_>, step: Step<'_>) -> Result<(), MergeFault>
     ensures { result ≡ own_checked from_bytes from_step merge_width (view net.now) (plain step.entry) }
 {
@@ -160,7 +145,7 @@ fn rewrite(net: &mut Net<'_>, step: Step<'_>) -> Result<(), NetFault>
     match step {
         Step::PostAgglomerate(p) => merge_products(net, Kind::Post, p),
         Step::PreAgglomerate(p) | Step::FreeAgglomerate(p) => merge_products(net, Kind::Pre, p),
-        _ => Ok(()),
+        _ => unreachable!(),
     }
 }
 
@@ -179,20 +164,19 @@ impl Book for Merges {
 
     ghost taken = { merge_taken };
 
-    ghost keeps = { house_keeps from_net from_bytes from_step merge_width merge_step };
+    ghost keeps = { house_keeps from_net from_bytes from_step merge_width step_of };
 
-    ghost narrow = { Prim.search rules };
+    ghost narrow = { narrow 0x2a 0x2c };
 
-    ghost refuses = { house_refuses from_net from_bytes from_step merge_width merge_step (book_number refusal_number) (λ e. refl) };
+    ghost refuses = { house_refuses from_net from_bytes from_step merge_width step_of (book_number refusal_number) (λ e. refl) };
 
     fn width(&self, first: u8) -> Option<u8> {
-        merge_width(first)
+        OWNED.width(first)
     }
 
     fn take(&self, net: &mut Net<'_>, step: &[u8]) -> Result<(), MergeFault> {
         net.check_size()?;
-        frame(merge_width(byte_at(step, 0)), step)?;
-        let step = decode(step);
+        let step = OWNED.step(step)?;
         check(net, step)?;
         rewrite(net, step)?;
         Ok(())

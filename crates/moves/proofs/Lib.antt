@@ -1,4 +1,3 @@
 pub mod Ahead
 pub mod Fusing
-pub mod Owning
 pub mod Sources

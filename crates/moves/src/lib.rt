@@ -6,20 +6,20 @@ ghost use Rattle.net.specs.Refusals.{judged, Passes};
 ghost use Rattle.net.specs.Looks.{sheet_checks};
 ghost use Rattle.net.specs.States.{view, stands, Answered};
 ghost use Rattle.books.specs.Faults.{book_number, from_net, from_bytes, from_step};
-ghost use Rattle.books.specs.House.{plain, owns, own_checked};
+ghost use Rattle.books.specs.House.{plain, owns, own_checked, step_of};
 ghost use Rattle.moves.specs.Columns.{SumsFit, Added};
-ghost use Rattle.moves.specs.Moves.{move_width, move_step, move_taken};
+ghost use Rattle.moves.specs.Moves.{move_width, move_taken};
 ghost use Rattle.theory.specs.Rewrites.{firing_ahead, fusing};
 ghost use Rattle.theory.specs.Steps.{refusal_number, table, next, fire_ahead, fuse_places};
 ghost use Rattle.theory.specs.Tests.{mark_ahead, ahead_fits?, fusion_fits?};
 ghost use Rattle.books.proofs.Housing.{house_keeps, house_refuses};
-ghost use Rattle.std.proofs.Common.{rules};
+ghost use Rattle.books.proofs.Owning.{narrow};
 
 mod conditions;
 
+use books::Book;
 use books::faults::{BookFault, Misfit};
-use books::step::Step;
-use books::{Book, byte_at, frame, two_bytes};
+use books::step::{Owned, Step};
 use checks::{is_there, stands_at, supports_at};
 use conditions::{ahead_fits, carry_both_ways, fusion_fits, is_ahead, mark_ahead, suffices};
 use net::{Net, NetFault};
@@ -123,29 +123,14 @@ fn fuse_net(net: &mut Net<'_>, p: u8, q: u8) -> Result<(), NetFault>
     remove_place(net, usize::from(q))
 }
 
-// The operand width for a first byte that this book owns.
-fn move_width(first: u8) -> Option<u8>
-    ensures { result ≡ move_width first }
-{
-    match first {
-        0x2d => Some(3),
-        0x2e => Some(4),
-        _ => None,
-    }
-}
-
-// The step in the bytes of a whole step. Its first byte is a number here and in the widths: a kind between byte and step would name each step once more.
-fn decode<'a>(bytes: &'a [u8]) -> Step<'a>
-    ensures { plain result ≡ move_step bytes.now }
-{
-    let a = byte_at(bytes, 1);
-    match byte_at(bytes, 0) {
-        0x2d => Step::FireAhead(a, two_bytes(bytes, 2)),
-        _ => Step::FusePlaces(a, byte_at(bytes, 2), byte_at(bytes, 3), byte_at(bytes, 4)),
-    }
-}
+// The first bytes that this book owns.
+const OWNED: Owned = Owned {
+    first: 0x2d,
+    last: 0x2e,
+};
 
 // The questions of a decoded step of this book; one of another book is unknown here.
+// A match here and in the rewrite: each step has operands of its own, and a closure for each would be made in a match.
 fn check(net: &Net<'_>, step: Step<'_>) -> Result<(), MoveFault>
     ensures { result ≡ own_checked from_bytes from_step move_width (view net.now) (plain step.entry) }
 {
@@ -166,7 +151,7 @@ fn rewrite(net: &mut Net<'_>, step: Step<'_>) -> Result<(), NetFault>
     match step {
         Step::FireAhead(t, k) => fire_times(net, t, k),
         Step::FusePlaces(p, q, _, _) => fuse_net(net, p, q),
-        _ => Ok(()),
+        _ => unreachable!(),
     }
 }
 
@@ -185,20 +170,19 @@ impl Book for Moves {
 
     ghost taken = { move_taken };
 
-    ghost keeps = { house_keeps from_net from_bytes from_step move_width move_step };
+    ghost keeps = { house_keeps from_net from_bytes from_step move_width step_of };
 
-    ghost narrow = { Prim.search rules };
+    ghost narrow = { narrow 0x2d 0x2e };
 
-    ghost refuses = { house_refuses from_net from_bytes from_step move_width move_step (book_number refusal_number) (λ e. refl) };
+    ghost refuses = { house_refuses from_net from_bytes from_step move_width step_of (book_number refusal_number) (λ e. refl) };
 
     fn width(&self, first: u8) -> Option<u8> {
-        move_width(first)
+        OWNED.width(first)
     }
 
     fn take(&self, net: &mut Net<'_>, step: &[u8]) -> Result<(), MoveFault> {
         net.check_size()?;
-        frame(move_width(byte_at(step, 0)), step)?;
-        let step = decode(step);
+        let step = OWNED.step(step)?;
         check(net, step)?;
         rewrite(net, step)?;
         Ok(())

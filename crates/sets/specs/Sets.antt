@@ -1,7 +1,6 @@
 -- The second house book owns 28 and 29: steps that name a set of places.
-use Rattle.std.specs.Prelude.{ℕ, cond, List, Some, None, Result, ◌==◌}
+use Rattle.std.specs.Prelude.{ℕ, List, Result}
 use Rattle.net.specs.States.{State}
-use Rattle.theory.specs.Steps as steps
 use Rattle.theory.specs.declared.refusal.Refusal.{Refusal}
 use Rattle.books.specs.declared.faults.BookFault.{BookFault}
 use Rattle.books.specs.Frames.{Widths}

@@ -81,6 +81,7 @@ const OWNED: Owned = Owned {
 };
 
 // The questions of a decoded step of this book; one of another book is unknown here.
+// A match here and in the rewrite: each step has operands of its own, and a closure for each would be made in a match.
 fn check(net: &Net<'_>, step: Step<'_>) -> Result<(), SetFault>
     ensures { result ≡ own_checked from_bytes from_step set_width (view net.now) (plain step.entry) }
 {

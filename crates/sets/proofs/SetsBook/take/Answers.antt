@@ -8,10 +8,10 @@ use Rattle.sets.proofs.SetsBook.take.Goals as goal
 pub returns-in_err-check : goal.returns-in_err-check
 returns-in_err-check c =
     let p = err_from_is_err_and c.from_residual-in_err-check.result c.from_residual-in_err-check.ensures.1 in
-    let q = step_refused 0x28 0x29 (view c.args.net.now) c.args.step.now (plain c.in_ok-step.step) c.in_ok-check_size.ensures c.in_ok-step.ensures _ c.in_err-check.ensures in
+    let q = step_refused 0x28 0x29 (view c.args.net.now) c.args.step.now c.in_ok-check_size.ensures (plain c.in_ok-step.step) c.in_ok-step.ensures _ c.in_err-check.ensures in
     record { answer = p.1 ∙ rw p.2 q.answer; state = q.state }
 
 pub returns : goal.returns
 returns c =
-    step_done 0x28 0x29 (view c.args.net.now) c.args.step.now (plain c.in_ok-step.step) c.in_ok-check_size.ensures c.in_ok-step.ensures
+    step_done 0x28 0x29 (view c.args.net.now) c.args.step.now c.in_ok-check_size.ensures (plain c.in_ok-step.step) c.in_ok-step.ensures
     c.rewrite.result (view c.rewrite.new.net) c.in_ok-check.ensures c.rewrite.ensures
