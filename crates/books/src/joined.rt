@@ -26,7 +26,7 @@ impl<F: Numbered, G: Numbered> Numbered for EitherFault<F, G> {
     }
 }
 
-#[derive(Drop)]
+#[derive(Clone, Copy, Debug, PartialEq, Eq, Drop)]
 pub struct Joined<A, B> {
     pub first: A,
     pub second: B,

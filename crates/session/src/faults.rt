@@ -26,7 +26,8 @@ impl Numbered for NoBook {
     }
 }
 
-// A refused call: its cause, and where it arose.
+// A refused call: its cause, and where it arose. It is a type of this crate, since `?` makes it from the faults below by `From`s that
+// stand beside it.
 #[derive(Clone, Copy, Debug, PartialEq, Eq, Drop)]
 pub struct SessionFault<F> {
     pub cause: Cause<F>,

@@ -13,7 +13,7 @@ pub enum Cause {
 }
 
 // A refused reading: its cause, and where it arose. The byte is the one where the command starts, and the count that of the
-// commands before it.
+// commands before it. It is a type of this crate, since `?` makes it from the net's fault by a `From` that stands beside it.
 #[derive(Clone, Copy, Debug, PartialEq, Eq)]
 pub struct ReadFault {
     pub cause: Cause,
