@@ -1,33 +1,36 @@
 // Reads of a net, and tests of its places and transitions, for the rules of books. All are total: they answer on every net.
 #![tactic(auto)]
 
-ghost use Rattle.std.specs.Prelude.{◌≡◌, not, slice_index};
+ghost use Rattle.std.specs.Prelude.{◌≡◌, ◌≤◌, not, slice_index};
 ghost use Rattle.net.specs.Sheets.{part};
 ghost use Rattle.net.specs.States.{view, stands, in_support, mark, take, put};
+ghost use Rattle.checks.specs.Alone.{weight};
 ghost use Rattle.theory.specs.Nets.{asks_reach, asks_standstill};
 ghost use Rattle.theory.specs.Steps.{there};
 ghost use Rattle.theory.specs.Tests.{member};
 
+mod alone;
 mod limits;
 mod neighbours;
 mod nodes;
 
+pub use alone::{spares_support, touches_only};
 pub use limits::{in_limits, rest_fits, rows_fit};
 pub use neighbours::{Consumes, Feeds, OnlyConsumer, Source};
-use net::{Net, Question, flag_at};
+use net::{MOST_PLACES, Net, Question, Side, flag_at};
 pub use nodes::{
     Nodes, Place, Test, Transition, count, every, first, flags, places, some, transitions,
 };
 
-// The number of a place in the part of the sheet that begins at `from`; 0 past the last place and past the end of the sheet.
-fn number_of(net: &Net<'_>, from: u16, p: u8) -> u32
+// The number of a place in the part of the sheet that begins at `from`; 0 past the last place and past the end of the sheet. No part
+// begins later than the puts of transition 255 would.
+fn number_of(net: &Net<'_>, from: usize, p: u8) -> u32
+    requires { from ≤ 32768 }
     ensures { result ≡ part (view net.now).sheet from p }
 {
-    if p < 64 {
-        net.sheet
-            .get(usize::from(from) + usize::from(p))
-            .copied()
-            .unwrap_or(0)
+    let p = usize::from(p);
+    if p < MOST_PLACES {
+        net.sheet.get(from + p).copied().unwrap_or(0)
     } else {
         0
     }
@@ -40,21 +43,28 @@ pub fn mark_of(net: &Net<'_>, p: u8) -> u32
     number_of(net, 0, p)
 }
 
+// The weight of a transition at a place, on one side.
+fn weight_of(net: &Net<'_>, side: Side, t: u8, p: u8) -> u32
+    ensures { result ≡ weight side (view net.now) t p }
+{
+    number_of(net, side.base(t), p)
+}
+
 // What a transition takes from a place.
 pub fn take_of(net: &Net<'_>, t: u8, p: u8) -> u32
     ensures { result ≡ take (view net.now) t p }
 {
-    number_of(net, 64 + 128 * u16::from(t), p)
+    weight_of(net, Side::Takes, t, p)
 }
 
 // What a transition puts into a place.
 pub fn put_of(net: &Net<'_>, t: u8, p: u8) -> u32
     ensures { result ≡ put (view net.now) t p }
 {
-    number_of(net, 128 + 128 * u16::from(t), p)
+    weight_of(net, Side::Puts, t, p)
 }
 
-// Does the place stand?
+// Does the place stand? This and the next are each one line over its own list; what they share is `flag_at` of `net`.
 pub fn stands_at(net: &Net<'_>, p: u8) -> bool
     ensures { result ≡ stands (view net.now) p }
 {
@@ -99,8 +109,6 @@ pub fn is_reach_only(net: &Net<'_>) -> bool
 pub fn is_member(set: &[u8; 8], p: u8) -> bool
     ensures { result ≡ member set.now p }
 {
-    match set.get(usize::from(p / 8)) {
-        Some(byte) => (byte >> (p % 8)) % 2 == 1,
-        None => false,
-    }
+    set.get(usize::from(p / 8))
+        .is_some_and(|byte| (byte >> (p % 8)) % 2 == 1)
 }

@@ -7,7 +7,7 @@ use crate::{Place, Test, Transition, put_of, take_of};
 use net::Net;
 
 // Does the transition put into p?
-#[derive(Drop)]
+#[derive(Clone, Copy, Debug, PartialEq, Eq)]
 pub struct Feeds {
     pub p: u8,
 }
@@ -23,7 +23,7 @@ impl Test for Feeds {
 }
 
 // Does the transition take from p?
-#[derive(Drop)]
+#[derive(Clone, Copy, Debug, PartialEq, Eq)]
 pub struct Consumes {
     pub p: u8,
 }
@@ -39,7 +39,7 @@ impl Test for Consumes {
 }
 
 // If the transition takes from p: is it t?
-#[derive(Drop)]
+#[derive(Clone, Copy, Debug, PartialEq, Eq)]
 pub struct OnlyConsumer {
     pub p: u8,
     pub t: u8,
@@ -56,7 +56,7 @@ impl Test for OnlyConsumer {
 }
 
 // Does t take from the place?
-#[derive(Drop)]
+#[derive(Clone, Copy, Debug, PartialEq, Eq)]
 pub struct Source {
     pub t: u8,
 }

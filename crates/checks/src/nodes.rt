@@ -9,7 +9,7 @@ use net::Net;
 use std::array;
 use std::ops::Range;
 
-// The numbers of the places.
+// The numbers of the places. The end is a number of 8 bits, as places are told, which `MOST_PLACES` is not.
 pub fn places() -> Range<u8>
     ensures { (result.start ≡ 0) × (result.end ≡ 64) }
 {
@@ -20,6 +20,7 @@ pub fn places() -> Range<u8>
 pub fn transitions(net: &Net<'_>) -> Range<u8>
     ensures { (result.start ≡ 0) × (result.end ≡ (view net.now).transitions) }
 {
+    // The cast loses nothing: a net has at most 96 transitions.
     0..net.shape.transitions as u8
 }
 
@@ -107,10 +108,12 @@ fn flag<T: Test>(net: &Net<'_>, test: &T, i: usize) -> bool
     requires { i < 96 }
     ensures { result ≡ (nat_lt i (T.Of.count (view net.now)) && T.Test.holds test.now (view net.now) i) }
 {
+    // The cast loses nothing: i is less than 96.
     i < usize::from(T::Of::of(net).end) && test.test(net, i as u8)
 }
 
-// The flags of the nodes: true for those of which the test holds, false past the last.
+// The flags of the nodes: true for those of which the test holds, false past the last. They are as many as there may be transitions,
+// since nothing is allocated.
 pub fn flags<T: Test>(net: &Net<'_>, test: &T) -> [bool; 96]
     ensures { (i : ℕ) → slice_index_or result i false ≡ (nat_lt i (T.Of.count (view net.now)) && T.Test.holds test.now (view net.now) i) }
 {

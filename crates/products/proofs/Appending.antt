@@ -5,7 +5,8 @@ use Rattle.std.proofs.lemmas.List.{get_or_append_left, get_or-append_right, get_
 use Rattle.std.proofs.lemmas.List.FromFn.{fill_by_all, get_or-map-range_with_len}
 use Rattle.net.specs.Sheets.{Row, no_row, number, sheet_of}
 use Rattle.theory.proofs.Listed.{cell_in, row_in, past_in, sheet_from}
-use Rattle.products.specs.Products.{numbers, Appended}
+use Rattle.rewrites.specs.Rows.{Appended}
+use Rattle.products.specs.Products.{numbers}
 
 -- A number of a row.
 pub numbers_at : (r : Row) (j : ℕ) → j < 128 → get_or (numbers r) j 0 ≡ number r j

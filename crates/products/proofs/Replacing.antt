@@ -1,5 +1,6 @@
 -- Rows that stay, and others behind them, of states alone.
 use Rattle.std.proofs.Common.{◌≡◌, ℕ, ◌+◌, ◌≤◌, Bool, true, false, cond, Ok, Err, Result, refl, List, map, length, set, sym, ap, ◌∙◌, subst, arith}
+use Rattle.std.proofs.lemmas.Bool.{eq-eqb, le-leb}
 use Rattle.net.specs.Sheets.{Row, cell}
 use Rattle.net.specs.declared.net.NetFault.{NetFault}
 use Rattle.net.specs.declared.net.NetFault.TheVariants.{WrongSize}
@@ -9,12 +10,14 @@ use Rattle.net.specs.States.{State, sized, mark, Answered}
 use Rattle.net.proofs.Tables.{ok_not_err}
 use Rattle.net.proofs.Writes.{length_by}
 use Rattle.theory.specs.Rewrites.{kept_rows, keeping}
-use Rattle.products.specs.Products.{numbers, Appended, apart?, replacing}
+use Rattle.rewrites.specs.Rows.{append_checks, Extended}
+use Rattle.products.specs.Products.{numbers, apart?, replacing}
 use Rattle.products.proofs.Appending.{appended_count, appended_all}
 
--- A state with another sheet, another count of transitions and other flags of places.
-abbrev pub made : State → List ℕ → ℕ → List Bool → State
-made t sheet n standing = record { sheet = sheet; transitions = n; standing = standing; support = t.support; question = t.question }
+-- A state with other flags of places.
+abbrev pub flagged : State → List Bool → State
+flagged u standing =
+    record { sheet = u.sheet; transitions = u.transitions; standing = standing; support = u.support; question = u.question }
 
 -- A rewrite that refuses only a sheet of wrong size, and has not refused.
 pub kept : (s t next : State) (r : Result Unit NetFault) → r ≡ Ok tt → Answered r t s (judged (sheet_checks s) next) → (sized s ≡ true) × (t ≡ next)
@@ -35,19 +38,22 @@ module _ (p : ℕ) (s : State) (bs : List (List ℕ)) (fits : length (kept_rows 
   kept_room t e =
       (ap (λ (u : State). length u.sheet) e ∙ length_by (cell (mark s) (kept_rows (apart? s p) s)), omega (arith, ap (λ (u : State). u.transitions) e))
 
-  pub replaced : (t : State) (ys : List ℕ) (standing : List Bool) → t ≡ keeping (apart? s p) s → Appended t.sheet ys bs t.transitions (length bs)
-      → length ys ≡ length t.sheet → standing ≡ set t.standing p false → (qs : List Row) → bs ≡ map numbers qs
-      → made t ys (t.transitions + length bs) standing ≡ replacing qs p s
-  replaced t ys standing e a w b qs f = subst Goal (sym e) at a w b
+  -- So they are appended.
+  pub room_passes : (t : State) → t ≡ keeping (apart? s p) s → ◌≡◌ {A = Result Unit NetFault} (judged (append_checks t (length bs)) tt) (Ok tt)
+  room_passes t e =
+      let room = kept_room t e in rw (eq-eqb (length t.sheet) 12352 room.0, le-leb (t.transitions + length bs) 96 room.1)
+
+  pub replaced : (t u : State) (standing : List Bool) → t ≡ keeping (apart? s p) s → Extended u t bs → standing ≡ set u.standing p false
+      → (qs : List Row) → bs ≡ map numbers qs → flagged u standing ≡ replacing qs p s
+  replaced t u standing e x b qs f = at (subst (λ (v : State). Extended u v bs) e x)
     where
       rs : List Row
       rs = kept_rows (apart? s p) s
 
-      Goal : State → Type 0
-      Goal u = Appended u.sheet ys bs u.transitions (length bs) → length ys ≡ length u.sheet → standing ≡ set u.standing p false
-          → made u ys (u.transitions + length bs) standing ≡ replacing qs p s
-
-      at : Goal (keeping (apart? s p) s)
-      at a w b =
-          let whole = w ∙ length_by (cell (mark s) rs) in
-          λ i. made s (appended_all (mark s) rs qs bs ys fits f a whole i) (appended_count (mark s) rs qs bs ys fits f a whole i) (b i)
+      at : Extended u (keeping (apart? s p) s) bs → flagged u standing ≡ replacing qs p s
+      at y =
+          let whole = y.size ∙ length_by (cell (mark s) rs) in
+          let sheet = appended_all (mark s) rs qs bs u.sheet fits f y.sheet whole in
+          let count = y.transitions ∙ appended_count (mark s) rs qs bs u.sheet fits f y.sheet whole in
+          let flags = b ∙ ap (λ l. set l p false) y.standing in
+          λ i. record { sheet = sheet i; transitions = count i; standing = flags i; support = y.support i; question = y.question i }

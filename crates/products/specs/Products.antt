@@ -1,5 +1,5 @@
--- The products of the feeders and the consumers of a place, and a sheet with their rows behind its own.
-use Rattle.std.specs.Prelude.{◌≡◌, ℕ, ◌+◌, ◌*◌, ◌<◌, ◌≤◌, Bool, true, false, not, ◌&&◌, List, [], ◌∷◌, ◌++◌, map, length, Ok, Result, nat_le, slice_index, slice_index_or, slice_set}
+-- The products of the feeders and the consumers of a place, and what they leave in their place.
+use Rattle.std.specs.Prelude.{◌≡◌, ℕ, ◌*◌, ◌<◌, ◌≤◌, Bool, true, false, not, ◌&&◌, List, [], ◌∷◌, ◌++◌, map, length, Ok, Result, nat_le, slice_set}
 use Rattle.std.specs.List.{range_with_len}
 use Rattle.net.specs.declared.net.NetFault.{NetFault}
 use Rattle.net.specs.declared.net.NetFault.TheVariants.{WrongSize, TooManyTransitions, BadWeight}
@@ -8,7 +8,7 @@ use Rattle.net.specs.declared.net.Side.TheVariants.{Takes, Puts}
 use Rattle.net.specs.Refusals.{Check, ◌unless◌, judged}
 use Rattle.net.specs.Sheets.{Row, number, most_weight, most_transitions}
 use Rattle.net.specs.States.{State, sized, mark}
-use Rattle.theory.specs.Tests.{feeder?, consumer?, feeders, consumers, products_fit?}
+use Rattle.theory.specs.Tests.{◌⇒◌, every_place, every_transition, feeder?, consumer?, feeders, consumers, products_fit?}
 use Rattle.theory.specs.Rewrites.{rewritten, kept_rows, merging, post_row, pre_row}
 use Rattle.products.specs.declared.pairs.Kind.{Kind}
 use Rattle.products.specs.declared.pairs.Kind.TheVariants.{Post, Pre}
@@ -31,6 +31,17 @@ weight_of r Puts q = r.puts q
 abbrev pub Fits : Row → Type 0
 Fits r = (q : ℕ) → q < 64 → (r.takes q ≤ most_weight) × (r.puts q ≤ most_weight)
 
+-- The same as a test; of the product of `h` and `f`, if `f` is a consumer of `p`; of all products of `h`, if `h` is a feeder of `p`.
+-- Of all feeders it is `products_fit?`.
+abbrev pub row_in_limits? : Row → Bool
+row_in_limits? r = every_place (λ q. nat_le (r.takes q) most_weight && nat_le (r.puts q) most_weight)
+
+abbrev pub consumer_fits? : Kind → State → ℕ → ℕ → ℕ → Bool
+consumer_fits? k s p h f = consumer? s p f ⇒ row_in_limits? (product_row k s p h f)
+
+abbrev pub feeder_fits? : Kind → State → ℕ → ℕ → Bool
+feeder_fits? k s p h = feeder? s p h ⇒ every_transition s (consumer_fits? k s p h)
+
 -- So are the products of all feeders and consumers of `p`.
 abbrev pub AllFit : State → ℕ → (ℕ → ℕ → Row) → Type 0
 AllFit s p product =
@@ -39,12 +50,6 @@ AllFit s p product =
 -- The 128 numbers of a row. They stay shut, since opened they would be counted out.
 unfoldable pub numbers : Row → List ℕ
 numbers r = map (number r) (range_with_len 0 128)
-
--- The first `k` of the rows `bs` stand in the sheet `ys` behind its first `n` rows; all else is as in `xs`.
-pub record Appended (xs ys : List ℕ) (bs : List (List ℕ)) (n k : ℕ) : Type 0 where
-  pub before : (i : ℕ) → i < 64 + 128 * n → slice_index ys i ≡ slice_index xs i
-  pub rows : (u j : ℕ) → u < k → j < 128 → slice_index ys (64 + 128 * (n + u) + j) ≡ slice_index (slice_index_or bs u []) j
-  pub after : (i : ℕ) → 64 + 128 * (n + k) ≤ i → slice_index ys i ≡ slice_index xs i
 
 -- A transition that neither feeds `p` nor consumes from it stays.
 abbrev pub apart? : State → ℕ → ℕ → Bool

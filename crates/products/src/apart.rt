@@ -6,7 +6,7 @@ use checks::{Test, Transition, put_of, take_of};
 use net::Net;
 
 // Does the transition leave p alone?
-#[derive(Drop)]
+#[derive(Clone, Copy, Debug, PartialEq, Eq)]
 pub struct Apart {
     pub p: u8,
 }

@@ -2,13 +2,13 @@
 #![tactic(auto)]
 
 ghost use Rattle.std.specs.Prelude.{◌≡◌, ℕ, ◌+◌, ◌*◌, ◌<◌, ◌≤◌, true, false, List, ◌++◌, map, length, slice_index, slice_set};
-ghost use Rattle.net.specs.Looks.{sheet_checks};
+ghost use Rattle.net.specs.Looks.{Leaves};
 ghost use Rattle.net.specs.Refusals.{judged};
 ghost use Rattle.net.specs.Sheets.{Row, number};
 ghost use Rattle.net.specs.States.{view, Answered};
 ghost use Rattle.theory.specs.Rewrites.{kept_rows, crossed, merging};
 ghost use Rattle.theory.specs.Tests.{those, consumer?, feeders, consumers};
-ghost use Rattle.products.specs.Products.{product_row, pair_row, Fits, numbers, Appended, apart?, replacing, merge_table, Allowed, merged};
+ghost use Rattle.products.specs.Products.{product_row, pair_row, Fits, numbers, apart?, replacing, merge_table, Allowed, merged};
 ghost use Rattle.arrayvec.specs.ArrayVec.{array_vec_len};
 
 mod apart;
@@ -22,7 +22,7 @@ use checks::{Consumes, Feeds, count, put_of, take_of, transitions};
 pub use limits::products_fit;
 use net::{MOST_PLACES, MOST_TRANSITIONS, Net, NetFault, Side};
 pub use pairs::{Kind, Pair};
-use rewrites::keep_where;
+use rewrites::{append_rows, keep_where};
 use std::array;
 use weights::weight;
 
@@ -37,6 +37,7 @@ fn number_at(net: &Net<'_>, pair: &Pair, j: usize) -> u32
     requires { (j < 128) × Fits (pair_row pair.now (view net.now)) }
     ensures { result ≡ number (pair_row pair.now (view net.now)) j }
 {
+    // The casts lose nothing: j is less than 128, and a product that is within the limits has weights of 16 bits.
     if j < MOST_PLACES {
         weight(net, pair, Side::Takes, j as u8) as u32
     } else {
@@ -83,26 +84,6 @@ fn products(net: &Net<'_>, kind: Kind, p: u8) -> Rows
     rows
 }
 
-// Writes a row of a sheet.
-fn write_row(sheet: &mut [u32], t: usize, row: &[u32; 128])
-    requires { 192 + 128 * t ≤ length sheet.old }
-    ensures row { (j : ℕ) → j < 128 → slice_index sheet.new (64 + 128 * t + j) ≡ slice_index row.now j }
-    ensures before { (i : ℕ) → i < 64 + 128 * t → slice_index sheet.new i ≡ slice_index sheet.old i }
-    ensures after { (i : ℕ) → 192 + 128 * t ≤ i → slice_index sheet.new i ≡ slice_index sheet.old i }
-{
-    sheet[64 + 128 * t..192 + 128 * t].copy_from_slice(row);
-}
-
-// Writes rows behind the first n rows of a sheet.
-fn append_rows(sheet: &mut [u32], n: usize, rows: &[[u32; 128]])
-    requires { 64 + 128 * (n + length rows.now) ≤ length sheet.old }
-    ensures { Appended sheet.old sheet.new rows.now n (length rows.now) }
-{
-    for (i, row) in rows.iter().enumerate() {
-        write_row(sheet, n + i, row);
-    }
-}
-
 // How many products there are: the feeders of p times its consumers.
 #[tactic(auto, using(crate::proofs::Crossing::few_pairs))]
 pub fn pair_count(net: &Net<'_>, p: u8) -> usize
@@ -141,14 +122,15 @@ fn check_merge(net: &Net<'_>, kind: Kind, p: u8) -> Result<(), NetFault>
     Ok(())
 }
 
-// The flags of the places, false at p.
+// The flags of the places, false at p. This is not `remove_place`: no row has a number at p any more, and p need not stand.
 #[tactic(auto, using(std::proofs::lemmas::List::set_past))]
 fn flags_without(standing: &[bool; 64], p: u8) -> [bool; 64]
     ensures { result ≡ slice_set standing.now p false }
 {
     let mut rest = *standing;
-    if p < 64 {
-        rest[usize::from(p)] = false;
+    let p = usize::from(p);
+    if p < MOST_PLACES {
+        rest[p] = false;
     }
     rest
 }
@@ -156,12 +138,10 @@ fn flags_without(standing: &[bool; 64], p: u8) -> [bool; 64]
 // Drops the feeders and consumers of p, appends rows in their place, and lets p go.
 fn replace_rows(net: &mut Net<'_>, p: u8, rows: &[[u32; 128]]) -> Result<(), NetFault>
     requires { length (kept_rows (apart? (view net.old) p) (view net.old)) + length rows.now ≤ 96 }
-    ensures { (qs : List Row) → rows.now ≡ map numbers qs → Answered result (view net.new) (view net.old) (judged (sheet_checks (view net.old)) (replacing qs p (view net.old))) }
+    ensures { (qs : List Row) → rows.now ≡ map numbers qs → Leaves result (view net.new) (view net.old) (replacing qs p (view net.old)) }
 {
     keep_where(net, &Apart { p })?;
-    let n = net.shape.transitions;
-    append_rows(net.sheet, n, rows);
-    net.shape.transitions = n + rows.len();
+    append_rows(net, rows)?;
     net.shape.standing = flags_without(&net.shape.standing, p);
     Ok(())
 }

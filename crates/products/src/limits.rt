@@ -1,9 +1,8 @@
 // The limits: are the weights of the new rows within them?
-ghost use Rattle.std.specs.Prelude.{◌≡◌, ℕ, Bool, ◌&&◌, nat_le};
-ghost use Rattle.net.specs.Sheets.{most_weight};
+ghost use Rattle.std.specs.Prelude.{◌≡◌};
 ghost use Rattle.net.specs.States.{view};
-ghost use Rattle.theory.specs.Tests.{◌⇒◌, every_place, every_transition, feeder?, consumer?, products_fit?};
-ghost use Rattle.products.specs.Products.{product_row, pair_row};
+ghost use Rattle.theory.specs.Tests.{every_transition, products_fit?};
+ghost use Rattle.products.specs.Products.{product_row, pair_row, row_in_limits?, consumer_fits?, feeder_fits?};
 
 use crate::pairs::{Kind, Pair};
 use crate::weights::weight;
@@ -13,7 +12,7 @@ use net::{MOST_WEIGHT, Net, Side};
 // Are the weights of the product within the limit?
 #[tactic(auto, unfolding(theory::specs::Tests::every))]
 fn pair_fits(net: &Net<'_>, pair: &Pair) -> bool
-    ensures { result ≡ every_place (λ q. nat_le ((pair_row pair.now (view net.now)).takes q) most_weight && nat_le ((pair_row pair.now (view net.now)).puts q) most_weight) }
+    ensures { result ≡ row_in_limits? (pair_row pair.now (view net.now)) }
 {
     places().all(|q| {
         weight(net, pair, Side::Takes, q) <= u64::from(MOST_WEIGHT)
@@ -23,7 +22,7 @@ fn pair_fits(net: &Net<'_>, pair: &Pair) -> bool
 
 // Is the product of feeder h and f within the limit, if f is a consumer of p?
 fn consumer_fits(net: &Net<'_>, pair: &Pair) -> bool
-    ensures { result ≡ (consumer? (view net.now) pair.now.p pair.now.f ⇒ every_place (λ q. nat_le ((pair_row pair.now (view net.now)).takes q) most_weight && nat_le ((pair_row pair.now (view net.now)).puts q) most_weight)) }
+    ensures { result ≡ consumer_fits? pair.now.kind (view net.now) pair.now.p pair.now.h pair.now.f }
 {
     take_of(net, pair.f, pair.p) == 0 || pair_fits(net, pair)
 }
@@ -31,14 +30,14 @@ fn consumer_fits(net: &Net<'_>, pair: &Pair) -> bool
 // Are the products of h within the limit, if that is a feeder of p?
 #[tactic(auto, unfolding(theory::specs::Tests::every))]
 fn all_fit(net: &Net<'_>, kind: Kind, p: u8, h: u8) -> bool
-    ensures { result ≡ every_transition (view net.now) (λ f. consumer? (view net.now) p f ⇒ every_place (λ q. nat_le ((product_row kind (view net.now) p h f).takes q) most_weight && nat_le ((product_row kind (view net.now) p h f).puts q) most_weight)) }
+    ensures { result ≡ every_transition (view net.now) (consumer_fits? kind (view net.now) p h) }
 {
     transitions(net).all(|f| consumer_fits(net, &Pair { kind, p, h, f }))
 }
 
 // The same, if h is a feeder of p.
 fn feeder_fits(net: &Net<'_>, kind: Kind, p: u8, h: u8) -> bool
-    ensures { result ≡ (feeder? (view net.now) p h ⇒ every_transition (view net.now) (λ f. consumer? (view net.now) p f ⇒ every_place (λ q. nat_le ((product_row kind (view net.now) p h f).takes q) most_weight && nat_le ((product_row kind (view net.now) p h f).puts q) most_weight))) }
+    ensures { result ≡ feeder_fits? kind (view net.now) p h }
 {
     put_of(net, h, p) == 0 || all_fit(net, kind, p, h)
 }

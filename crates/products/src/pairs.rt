@@ -1,7 +1,7 @@
 // A feeder and a consumer of a place, and how their product is made.
 
 // The kinds of agglomeration: a feeder's puts are joined with its consumers', or a consumer's takes with its feeders'.
-#[derive(Clone, Copy)]
+#[derive(Clone, Copy, Debug, PartialEq, Eq)]
 pub enum Kind {
     Post,
     Pre,
@@ -9,7 +9,7 @@ pub enum Kind {
 
 // Feeder h and consumer f of place p. Where neither is known yet, the kind and the place are passed as a step tells them: a struct
 // of the two would be taken apart again in each clause.
-#[derive(Clone, Copy)]
+#[derive(Clone, Copy, Debug, PartialEq, Eq)]
 pub struct Pair {
     pub kind: Kind,
     pub p: u8,

@@ -1,3 +1,4 @@
+pub mod Appending
 pub mod Closing
 pub mod Keeping
 mod Limiting

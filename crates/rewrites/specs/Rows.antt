@@ -1,10 +1,11 @@
--- The rows that are kept, the rows without some places, what a sheet of the right size becomes, and what closing rows up leaves.
-use Rattle.std.specs.Prelude.{◌≡◌, ℕ, ◌+◌, ◌*◌, ◌<◌, ◌≤◌, Bool, cond, ◌&&◌, List, [], ◌∷◌, map, length, Result, nat_eq, slice_index}
+-- The rows that are kept, the rows without some places, what a sheet of the right size becomes, what closing rows up leaves, and a
+-- net with rows behind its own.
+use Rattle.std.specs.Prelude.{◌≡◌, ℕ, ◌+◌, ◌*◌, ◌<◌, ◌≤◌, Bool, cond, ◌&&◌, List, [], ◌∷◌, map, length, Result, nat_eq, nat_le, slice_index, slice_index_or}
 use Rattle.net.specs.declared.net.NetFault.{NetFault}
-use Rattle.net.specs.declared.net.NetFault.TheVariants.{WrongSize}
-use Rattle.net.specs.Refusals.{◌unless◌, judged}
-use Rattle.net.specs.Sheets.{Row, row_at, rows_in, sheet_size}
-use Rattle.net.specs.States.{State, stands, mark}
+use Rattle.net.specs.declared.net.NetFault.TheVariants.{WrongSize, TooManyTransitions}
+use Rattle.net.specs.Refusals.{Check, ◌unless◌, judged}
+use Rattle.net.specs.Sheets.{Row, row_at, rows_in, sheet_size, most_transitions}
+use Rattle.net.specs.States.{State, sized, stands, mark}
 use Rattle.theory.specs.Nexts.{inside}
 use Rattle.theory.specs.Rewrites.{rewritten, flags_by}
 use Rattle.theory.specs.Tests.{those}
@@ -37,3 +38,22 @@ pub record Closed (xs ys l : List ℕ) : Type 0 where
   pub marks : (i : ℕ) → i < 64 → slice_index ys i ≡ slice_index xs i
   pub rows : (u j : ℕ) → u < length l → j < 128 → slice_index ys (64 + 128 * u + j) ≡ slice_index xs (64 + 128 * slice_index l u + j)
   pub rest : (i : ℕ) → 64 + 128 * length l ≤ i → slice_index ys i ≡ slice_index xs i
+
+-- The first `k` of the rows `bs` stand in the sheet `ys` behind its first `n` rows; all else is as in `xs`.
+pub record Appended (xs ys : List ℕ) (bs : List (List ℕ)) (n k : ℕ) : Type 0 where
+  pub before : (i : ℕ) → i < 64 + 128 * n → slice_index ys i ≡ slice_index xs i
+  pub rows : (u j : ℕ) → u < k → j < 128 → slice_index ys (64 + 128 * (n + u) + j) ≡ slice_index (slice_index_or bs u []) j
+  pub after : (i : ℕ) → 64 + 128 * (n + k) ≤ i → slice_index ys i ≡ slice_index xs i
+
+-- What is asked of a net before `k` rows are appended to its own.
+abbrev pub append_checks : State → ℕ → List (Check NetFault)
+append_checks s k = WrongSize unless sized s ∷ TooManyTransitions unless nat_le (s.transitions + k) most_transitions ∷ []
+
+-- The net with the rows `bs` behind those that it had.
+pub record Extended (after before : State) (bs : List (List ℕ)) : Type 0 where
+  pub sheet : Appended before.sheet after.sheet bs before.transitions (length bs)
+  pub size : length after.sheet ≡ length before.sheet
+  pub transitions : after.transitions ≡ before.transitions + length bs
+  pub standing : after.standing ≡ before.standing
+  pub support : after.support ≡ before.support
+  pub question : after.question ≡ before.question

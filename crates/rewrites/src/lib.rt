@@ -2,7 +2,7 @@
 #![tactic(auto)]
 
 ghost use Rattle.std.specs.Prelude.{◌≡◌, ℕ, ◌+◌, ◌*◌, ◌%◌, ◌<◌, ◌≤◌, Bool, false, ◌&&◌, length, if◌then◌else◌, IfOk, nat_lt, slice_index, slice_index_or};
-ghost use Rattle.net.specs.Looks.{sheet_checks, place_checks};
+ghost use Rattle.net.specs.Looks.{Leaves, place_checks};
 ghost use Rattle.net.specs.Refusals.{judged};
 ghost use Rattle.net.specs.Sheets.{mark_at, sheet_of};
 ghost use Rattle.net.specs.States.{view, Answered};
@@ -12,13 +12,27 @@ ghost use Rattle.theory.specs.Tests.{those, member};
 ghost use Rattle.rewrites.specs.Rows.{kept_in, changed_in, limited_to, given, written, Closed};
 
 mod marks;
+mod rows;
 
 use checks::{Test, Transition, flags, is_member};
 pub use marks::write_marks;
-use net::{Net, NetFault, SHEET_SIZE, Shape};
+use net::{MOST_PLACES, Net, NetFault, SHEET_SIZE, Shape, Side};
+pub use rows::append_rows;
 use std::array;
+use std::ops::Range;
 
-// The sheet and the shape of a net are passed apart: only the sheet becomes an array, once its size is known.
+// The sheet and the shape of a net are passed apart: only the sheet becomes an array, once its size is known. Flags and sheets are
+// arrays of fixed size, since nothing is allocated.
+
+// Where row t lies in a sheet: its takes, then its puts.
+fn row_at(t: usize) -> Range<usize>
+    requires { t ≤ 96 }
+    ensures { (result.start ≡ 64 + 128 * t) × (result.end ≡ 192 + 128 * t) }
+{
+    // The cast loses nothing: t is at most 96.
+    let from = Side::Takes.base(t as u8);
+    from..from + 2 * MOST_PLACES
+}
 
 // Copies a row over an earlier one, or over itself.
 fn copy_row(sheet: &mut [u32; SHEET_SIZE], from: usize, to: usize)
@@ -27,7 +41,7 @@ fn copy_row(sheet: &mut [u32; SHEET_SIZE], from: usize, to: usize)
     ensures before { (i : ℕ) → i < 64 + 128 * to → slice_index sheet.new i ≡ slice_index sheet.old i }
     ensures after { (i : ℕ) → 192 + 128 * to ≤ i → slice_index sheet.new i ≡ slice_index sheet.old i }
 {
-    sheet.copy_within(64 + 128 * from..192 + 128 * from, 64 + 128 * to);
+    sheet.copy_within(row_at(from), row_at(to).start);
 }
 
 // Closes up the rows of the transitions that stay.
@@ -55,7 +69,7 @@ fn wipe_after(sheet: &mut [u32; SHEET_SIZE], n: usize)
     ensures after { (i : ℕ) → 64 + 128 * n ≤ i → slice_index sheet.new i ≡ 0 }
     ensures size { length sheet.new ≡ 12352 }
 {
-    sheet[64 + 128 * n..].fill(0);
+    sheet[row_at(n).start..].fill(0);
 }
 
 // Keeps the rows of the transitions that stay, closed up, and tells how many they are; what follows becomes 0.
@@ -77,7 +91,8 @@ fn clear_rest<F: Fn(u8) -> bool>(sheet: &mut [u32; SHEET_SIZE], stays: F)
     ensures { (i : ℕ) → i < 12352 → (b : Bool) × F.post stays (i % 64) b × (slice_index sheet.new i ≡ (if b then slice_index sheet.old i else 0)) }
 {
     for (i, number) in sheet.iter_mut().enumerate() {
-        if !stays((i % 64) as u8) {
+        // The cast loses nothing: a place is less than 64.
+        if !stays((i % MOST_PLACES) as u8) {
             *number = 0;
         }
     }
@@ -116,6 +131,7 @@ fn stands_inside(standing: &[bool; 64], set: &[u8; 8], p: usize) -> bool
     requires { p < 64 }
     ensures { result ≡ (slice_index_or standing.now p false && member set.now p) }
 {
+    // The cast loses nothing: p is less than 64.
     standing[p] && is_member(set, p as u8)
 }
 
@@ -128,36 +144,24 @@ fn flags_inside(standing: &[bool; 64], set: &[u8; 8]) -> [bool; 64]
 
 // Keeps the transitions whose flag is true, and the list closes up; all rows after them become 0.
 pub fn keep_transitions(net: &mut Net<'_>, keep: &[bool; 96]) -> Result<(), NetFault>
-    ensures { Answered result (view net.new) (view net.old) (judged (sheet_checks (view net.old)) (keeping (λ t. slice_index_or keep.now t false) (view net.old))) }
+    ensures { Leaves result (view net.new) (view net.old) (keeping (λ t. slice_index_or keep.now t false) (view net.old)) }
 {
     net.shape.transitions = keep_rows(net.sheet, &net.shape, keep)?;
     Ok(())
 }
 
-// Keeps the transitions of which the test holds, given its flags. The test itself is only spoken of.
-fn keep_flagged<T: Test<Of = Transition>>(
-    net: &mut Net<'_>,
-    _test: &T,
-    keep: &[bool; 96],
-) -> Result<(), NetFault>
-    requires { (i : ℕ) → slice_index_or keep.now i false ≡ (nat_lt i (view net.old).transitions && T.Test.holds _test.now (view net.old) i) }
-    ensures { Answered result (view net.new) (view net.old) (judged (sheet_checks (view net.old)) (keeping (T.Test.holds _test.now (view net.old)) (view net.old))) }
-{
-    keep_transitions(net, keep)
-}
-
 // Keeps the transitions of which the test holds, and the list closes up.
 pub fn keep_where<T: Test<Of = Transition>>(net: &mut Net<'_>, test: &T) -> Result<(), NetFault>
-    ensures { Answered result (view net.new) (view net.old) (judged (sheet_checks (view net.old)) (keeping (T.Test.holds test.now (view net.old)) (view net.old))) }
+    ensures { Leaves result (view net.new) (view net.old) (keeping (T.Test.holds test.now (view net.old)) (view net.old)) }
 {
     let keep = flags(net, test);
-    keep_flagged(net, test, &keep)
+    keep_transitions(net, &keep)
 }
 
 // Removes the places outside a set: their marks, takes and puts become 0, and they no longer stand.
 #[tactic(auto, using(crate::proofs::Parts::length_changed))]
 pub fn limit_places(net: &mut Net<'_>, set: &[u8; 8]) -> Result<(), NetFault>
-    ensures { Answered result (view net.new) (view net.old) (judged (sheet_checks (view net.old)) (limited_to (member set.now) (view net.old))) }
+    ensures { Leaves result (view net.new) (view net.old) (limited_to (member set.now) (view net.old)) }
 {
     leave_outside(net.sheet, &net.shape, set)?;
     net.shape.standing = flags_inside(&net.shape.standing, set);

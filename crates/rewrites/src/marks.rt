@@ -1,9 +1,8 @@
 // New start marks for a net.
 ghost use Rattle.std.specs.Prelude.{◌≡◌, length, slice_index};
-ghost use Rattle.net.specs.Looks.{sheet_checks};
-ghost use Rattle.net.specs.Refusals.{judged};
+ghost use Rattle.net.specs.Looks.{Leaves};
 ghost use Rattle.net.specs.Sheets.{rows_in, sheet_of};
-ghost use Rattle.net.specs.States.{view, rows, Answered};
+ghost use Rattle.net.specs.States.{view, rows};
 ghost use Rattle.theory.specs.Rewrites.{rewritten};
 ghost use Rattle.rewrites.specs.Rows.{given, written};
 
@@ -24,7 +23,7 @@ fn mark_rows(sheet: &mut [u32], shape: &Shape, marks: &[u32; 64]) -> Result<(), 
 // Gives the net these start marks; its transitions and its places stay.
 #[tactic(auto, using(crate::proofs::Marking::length_rows_in))]
 pub fn write_marks(net: &mut Net<'_>, marks: &[u32; 64]) -> Result<(), NetFault>
-    ensures { Answered result (view net.new) (view net.old) (judged (sheet_checks (view net.old)) (rewritten (view net.old) (λ p. slice_index marks.now p) (rows (view net.old)) (view net.old).standing)) }
+    ensures { Leaves result (view net.new) (view net.old) (rewritten (view net.old) (λ p. slice_index marks.now p) (rows (view net.old)) (view net.old).standing) }
 {
     mark_rows(net.sheet, &net.shape, marks)
 }

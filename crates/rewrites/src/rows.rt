@@ -1,0 +1,44 @@
+// New rows for a net, behind its own.
+ghost use Rattle.std.specs.Prelude.{◌≡◌, ℕ, ◌+◌, ◌*◌, ◌<◌, ◌≤◌, length, IfOk, IfErr, slice_index};
+ghost use Rattle.net.specs.Refusals.{judged};
+ghost use Rattle.net.specs.States.{view};
+ghost use Rattle.rewrites.specs.Rows.{Appended, append_checks, Extended};
+
+use crate::row_at;
+use net::{MOST_TRANSITIONS, Net, NetFault};
+
+// Writes a row of a sheet.
+fn write_row(sheet: &mut [u32], t: usize, row: &[u32; 128])
+    requires { (length sheet.old ≡ 12352) × (t < 96) }
+    ensures row { (j : ℕ) → j < 128 → slice_index sheet.new (64 + 128 * t + j) ≡ slice_index row.now j }
+    ensures before { (i : ℕ) → i < 64 + 128 * t → slice_index sheet.new i ≡ slice_index sheet.old i }
+    ensures after { (i : ℕ) → 192 + 128 * t ≤ i → slice_index sheet.new i ≡ slice_index sheet.old i }
+{
+    sheet[row_at(t)].copy_from_slice(row);
+}
+
+// Writes rows behind the first n rows of a sheet.
+fn write_rows(sheet: &mut [u32], n: usize, rows: &[[u32; 128]])
+    requires { (length sheet.old ≡ 12352) × (n + length rows.now ≤ 96) }
+    ensures { Appended sheet.old sheet.new rows.now n (length rows.now) }
+{
+    for (t, row) in (n..MOST_TRANSITIONS).zip(rows) {
+        write_row(sheet, t, row);
+    }
+}
+
+// Appends rows to those of the net, each with its takes and then its puts; all else stays as it is.
+pub fn append_rows(net: &mut Net<'_>, rows: &[[u32; 128]]) -> Result<(), NetFault>
+    ensures answer { result ≡ judged (append_checks (view net.old) (length rows.now)) tt }
+    ensures appended { IfOk result (λ _. Extended (view net.new) (view net.old) rows.now) }
+    ensures refused { IfErr result (λ _. view net.new ≡ view net.old) }
+{
+    net.check_size()?;
+    let n = net.shape.transitions;
+    if rows.len() > MOST_TRANSITIONS - n {
+        return Err(NetFault::TooManyTransitions);
+    }
+    write_rows(net.sheet, n, rows);
+    net.shape.transitions = n + rows.len();
+    Ok(())
+}
