@@ -8,7 +8,7 @@ use net::Net;
 
 // Does t take at least what u takes everywhere, with the same effect?
 #[tactic(auto, unfolding(theory::specs::Tests::every))]
-pub fn is_dominated(net: &Net<'_>, t: u8, u: u8) -> bool
+pub(crate) fn is_dominated(net: &Net<'_>, t: u8, u: u8) -> bool
     ensures { result ≡ dominated? (view net.now) t u }
 {
     places().all(|p| {
@@ -21,7 +21,7 @@ pub fn is_dominated(net: &Net<'_>, t: u8, u: u8) -> bool
 
 // Are takes and puts of t those of u, times the factor?
 #[tactic(auto, unfolding(theory::specs::Tests::every))]
-pub fn is_multiple(net: &Net<'_>, t: u8, u: u8, k: u16) -> bool
+pub(crate) fn is_multiple(net: &Net<'_>, t: u8, u: u8, k: u16) -> bool
     ensures { result ≡ multiple? (view net.now) t u k }
 {
     let k = u64::from(k);
@@ -47,7 +47,7 @@ fn composes_at(net: &Net<'_>, t: u8, u: u8, v: u8, p: u8) -> bool
 
 // Does t do what u and then v do?
 #[tactic(auto, unfolding(theory::specs::Tests::every))]
-pub fn is_composed(net: &Net<'_>, t: u8, u: u8, v: u8) -> bool
+pub(crate) fn is_composed(net: &Net<'_>, t: u8, u: u8, v: u8) -> bool
     ensures { result ≡ composed? (view net.now) t u v }
 {
     places().all(|p| composes_at(net, t, u, v, p))
@@ -55,7 +55,7 @@ pub fn is_composed(net: &Net<'_>, t: u8, u: u8, v: u8) -> bool
 
 // Has t no positive effect, and none on the support?
 #[tactic(auto, unfolding(theory::specs::Tests::every))]
-pub fn is_draining(net: &Net<'_>, t: u8) -> bool
+pub(crate) fn is_draining(net: &Net<'_>, t: u8) -> bool
     ensures { result ≡ draining? (view net.now) t }
 {
     places().all(|p| {
@@ -67,7 +67,7 @@ pub fn is_draining(net: &Net<'_>, t: u8) -> bool
 
 // Does t take nothing?
 #[tactic(auto, unfolding(theory::specs::Tests::every))]
-pub fn is_sourceless(net: &Net<'_>, t: u8) -> bool
+pub(crate) fn is_sourceless(net: &Net<'_>, t: u8) -> bool
     ensures { result ≡ sourceless? (view net.now) t }
 {
     places().all(|p| take_of(net, t, p) == 0)
@@ -75,14 +75,14 @@ pub fn is_sourceless(net: &Net<'_>, t: u8) -> bool
 
 // Does no transition put into p?
 #[tactic(auto, unfolding(theory::specs::Tests::every))]
-pub fn is_unfed(net: &Net<'_>, p: u8) -> bool
+pub(crate) fn is_unfed(net: &Net<'_>, p: u8) -> bool
     ensures { result ≡ unfed? (view net.now) p }
 {
     transitions(net).all(|t| put_of(net, t, p) == 0)
 }
 
 // Does t take more from p than its mark?
-pub fn is_starved(net: &Net<'_>, t: u8, p: u8) -> bool
+pub(crate) fn is_starved(net: &Net<'_>, t: u8, p: u8) -> bool
     ensures { result ≡ starved? (view net.now) t p }
 {
     mark_of(net, p) < take_of(net, t, p)
@@ -90,7 +90,7 @@ pub fn is_starved(net: &Net<'_>, t: u8, p: u8) -> bool
 
 // Is no effect at p negative?
 #[tactic(auto, unfolding(theory::specs::Tests::every))]
-pub fn never_loses(net: &Net<'_>, p: u8) -> bool
+pub(crate) fn never_loses(net: &Net<'_>, p: u8) -> bool
     ensures { result ≡ never_loses? (view net.now) p }
 {
     transitions(net).all(|t| take_of(net, t, p) <= put_of(net, t, p))
@@ -98,7 +98,7 @@ pub fn never_loses(net: &Net<'_>, p: u8) -> bool
 
 // Does no transition take more from p than its mark?
 #[tactic(auto, unfolding(theory::specs::Tests::every))]
-pub fn has_always_enough(net: &Net<'_>, p: u8) -> bool
+pub(crate) fn has_always_enough(net: &Net<'_>, p: u8) -> bool
     ensures { result ≡ always_enough? (view net.now) p }
 {
     transitions(net).all(|t| take_of(net, t, p) <= mark_of(net, p))
@@ -106,7 +106,7 @@ pub fn has_always_enough(net: &Net<'_>, p: u8) -> bool
 
 // Does every transition take from p at most k times what it takes from q, with an effect at p of at least k times that at q?
 #[tactic(auto, unfolding(theory::specs::Tests::every))]
-pub fn is_implied(net: &Net<'_>, p: u8, q: u8, k: u16) -> bool
+pub(crate) fn is_implied(net: &Net<'_>, p: u8, q: u8, k: u16) -> bool
     ensures { result ≡ implied? (view net.now) p q k }
 {
     let k = u64::from(k);
@@ -119,7 +119,7 @@ pub fn is_implied(net: &Net<'_>, p: u8, q: u8, k: u16) -> bool
 }
 
 // Is the mark of p at least k times that of q?
-pub fn covers(net: &Net<'_>, p: u8, q: u8, k: u16) -> bool
+pub(crate) fn covers(net: &Net<'_>, p: u8, q: u8, k: u16) -> bool
     ensures { result ≡ covers? (view net.now) p q k }
 {
     u64::from(k) * u64::from(mark_of(net, q)) <= u64::from(mark_of(net, p))

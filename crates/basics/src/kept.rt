@@ -5,8 +5,8 @@ use checks::{Test, Transition};
 use net::Net;
 
 // Is the transition another than t?
-#[derive(Drop)]
-pub struct Other {
+#[derive(Clone, Copy, Debug, PartialEq, Eq)]
+pub(crate) struct Other {
     pub t: u8,
 }
 
@@ -21,8 +21,8 @@ impl Test for Other {
 }
 
 // Is the transition t?
-#[derive(Drop)]
-pub struct Only {
+#[derive(Clone, Copy, Debug, PartialEq, Eq)]
+pub(crate) struct Only {
     pub t: u8,
 }
 

@@ -3,8 +3,8 @@
 
 ghost use Rattle.std.specs.Prelude.{◌≡◌, true, refl};
 ghost use Rattle.net.specs.Refusals.{judged, Passes};
-ghost use Rattle.net.specs.Looks.{sheet_checks};
-ghost use Rattle.net.specs.States.{view, stands, Answered};
+ghost use Rattle.net.specs.Looks.{Leaves};
+ghost use Rattle.net.specs.States.{view, stands};
 ghost use Rattle.basics.specs.Basics.{basic_width, basic_taken};
 ghost use Rattle.books.specs.Faults.{book_number, from_net, from_bytes, from_step};
 ghost use Rattle.books.specs.House.{plain, owns, own_checked, step_of};
@@ -177,14 +177,14 @@ fn check_implied(net: &Net<'_>, p: u8, q: u8, k: u16) -> Result<(), Refusal>
 
 // Drops one transition.
 fn drop_transition(net: &mut Net<'_>, t: u8) -> Result<(), NetFault>
-    ensures { Answered result (view net.new) (view net.old) (judged (sheet_checks (view net.old)) (dropping t (view net.old))) }
+    ensures { Leaves result (view net.new) (view net.old) (dropping t (view net.old)) }
 {
     keep_where(net, &Other { t })
 }
 
 // Drops all transitions but one.
 fn keep_transition(net: &mut Net<'_>, t: u8) -> Result<(), NetFault>
-    ensures { Answered result (view net.new) (view net.old) (judged (sheet_checks (view net.old)) (keeping_only t (view net.old))) }
+    ensures { Leaves result (view net.new) (view net.old) (keeping_only t (view net.old)) }
 {
     keep_where(net, &Only { t })
 }
@@ -192,7 +192,7 @@ fn keep_transition(net: &mut Net<'_>, t: u8) -> Result<(), NetFault>
 // Removes a place that stands.
 fn leave_place(net: &mut Net<'_>, p: u8) -> Result<(), NetFault>
     requires { stands (view net.old) p ≡ true }
-    ensures { Answered result (view net.new) (view net.old) (judged (sheet_checks (view net.old)) (leaving p (view net.old))) }
+    ensures { Leaves result (view net.new) (view net.old) (leaving p (view net.old)) }
 {
     remove_place(net, usize::from(p))
 }
@@ -226,7 +226,7 @@ fn check(net: &Net<'_>, step: Step<'_>) -> Result<(), BasicFault>
 fn rewrite(net: &mut Net<'_>, step: Step<'_>) -> Result<(), NetFault>
     requires own { owns basic_width (plain step) ≡ true }
     requires passes { Passes (table (view net.old) (plain step)) }
-    ensures { Answered result (view net.new) (view net.old) (judged (sheet_checks (view net.old)) (next (view net.old) (plain step.entry))) }
+    ensures { Leaves result (view net.new) (view net.old) (next (view net.old) (plain step.entry)) }
 {
     match step {
         Step::DropDominated(t, _)

@@ -44,7 +44,7 @@ pub fn mark_of(net: &Net<'_>, p: u8) -> u32
 }
 
 // The weight of a transition at a place, on one side.
-fn weight_of(net: &Net<'_>, side: Side, t: u8, p: u8) -> u32
+pub fn weight_of(net: &Net<'_>, side: Side, t: u8, p: u8) -> u32
     ensures { result ≡ weight side (view net.now) t p }
 {
     number_of(net, side.base(t), p)

@@ -6,9 +6,9 @@ ghost use Rattle.theory.specs.Tests.{◌⇒◌, every_place, every_transition, s
 
 use checks::{
     Consumes, Feeds, OnlyConsumer, Source, every, first, places, put_of, rest_fits, some,
-    supports_at, take_of, transitions,
+    spares_support, take_of, touches_only, transitions,
 };
-use net::Net;
+use net::{Net, Side};
 use products::{Kind, products_fit};
 
 // Is no transition both a feeder and a consumer of p?
@@ -20,32 +20,24 @@ fn are_one_sided(net: &Net<'_>, p: u8) -> bool
 }
 
 // Has p a feeder and a consumer, and is no transition both?
-pub fn is_two_sided(net: &Net<'_>, p: u8) -> bool
+pub(crate) fn is_two_sided(net: &Net<'_>, p: u8) -> bool
     ensures { result ≡ two_sided? (view net.now) p }
 {
     some(net, &Feeds { p }) && some(net, &Consumes { p }) && are_one_sided(net, p)
 }
 
-// Does f take from p alone, and put into no support place? This sentence on consumers and that on feeders stay apart, as in the definitions.
-#[tactic(auto, unfolding(theory::specs::Tests::every))]
-fn takes_from_alone(net: &Net<'_>, p: u8, f: u8) -> bool
-    ensures { result ≡ every_place (λ q. (not (q == p) ⇒ nat_eq (take (view net.now) f q) 0) && (in_support (view net.now) q ⇒ nat_eq (put (view net.now) f q) 0)) }
-{
-    places().all(|q| {
-        (q == p || take_of(net, f, q) == 0) && (!supports_at(net, q) || put_of(net, f, q) == 0)
-    })
-}
-
-// The same, if f is a consumer of p.
+// If f is a consumer of p: does it take from p alone, and put into no support place? This sentence on consumers and that on feeders
+// stay apart, as in the definitions.
 fn is_post_consumer(net: &Net<'_>, p: u8, f: u8) -> bool
     ensures { result ≡ (consumer? (view net.now) p f ⇒ every_place (λ q. (not (q == p) ⇒ nat_eq (take (view net.now) f q) 0) && (in_support (view net.now) q ⇒ nat_eq (put (view net.now) f q) 0))) }
 {
-    take_of(net, f, p) == 0 || takes_from_alone(net, p, f)
+    take_of(net, f, p) == 0
+        || (touches_only(net, Side::Takes, f, p) && spares_support(net, Side::Puts, f))
 }
 
 // Post-agglomeration, on consumers: each takes from p alone, and puts into no support place.
 #[tactic(auto, unfolding(theory::specs::Tests::every))]
-pub fn are_post_consumers(net: &Net<'_>, p: u8) -> bool
+pub(crate) fn are_post_consumers(net: &Net<'_>, p: u8) -> bool
     ensures { result ≡ post_consumers? (view net.now) p }
 {
     transitions(net).all(|f| is_post_consumer(net, p, f))
@@ -107,20 +99,10 @@ fn are_all_equal(net: &Net<'_>, p: u8) -> bool
 }
 
 // Post-agglomeration, on weights: a consumer uses all that a feeder brings.
-pub fn are_post_weights(net: &Net<'_>, p: u8) -> bool
+pub(crate) fn are_post_weights(net: &Net<'_>, p: u8) -> bool
     ensures { result ≡ post_weights? (view net.now) p }
 {
     has_one_consumer(net, p) || are_all_equal(net, p)
-}
-
-// Does h put nothing elsewhere than into p, and take from no support place?
-#[tactic(auto, unfolding(theory::specs::Tests::every))]
-fn puts_into_alone(net: &Net<'_>, p: u8, h: u8) -> bool
-    ensures { result ≡ every_place (λ q. (not (q == p) ⇒ nat_eq (put (view net.now) h q) 0) && (in_support (view net.now) q ⇒ nat_eq (take (view net.now) h q) 0)) }
-{
-    places().all(|q| {
-        (q == p || put_of(net, h, q) == 0) && (!supports_at(net, q) || take_of(net, h, q) == 0)
-    })
 }
 
 // If h is a feeder of p: does it put 1 into p and nothing elsewhere, and take from no support place?
@@ -128,12 +110,15 @@ fn is_free_feeder(net: &Net<'_>, p: u8, h: u8) -> bool
     ensures { result ≡ (feeder? (view net.now) p h ⇒ (put (view net.now) h p == 1 && every_place (λ q. (not (q == p) ⇒ nat_eq (put (view net.now) h q) 0) && (in_support (view net.now) q ⇒ nat_eq (take (view net.now) h q) 0)))) }
 {
     let given = put_of(net, h, p);
-    given == 0 || (given == 1 && puts_into_alone(net, p, h))
+    given == 0
+        || (given == 1
+            && touches_only(net, Side::Puts, h, p)
+            && spares_support(net, Side::Takes, h))
 }
 
 // Pre- and free agglomeration, on feeders: each puts 1 into p and nothing elsewhere, and takes from no support place.
 #[tactic(auto, unfolding(theory::specs::Tests::every))]
-pub fn are_free_feeders(net: &Net<'_>, p: u8) -> bool
+pub(crate) fn are_free_feeders(net: &Net<'_>, p: u8) -> bool
     ensures { result ≡ free_feeders? (view net.now) p }
 {
     transitions(net).all(|h| is_free_feeder(net, p, h))
@@ -163,7 +148,7 @@ fn is_pre_feeder(net: &Net<'_>, p: u8, h: u8) -> bool
 
 // Pre-agglomeration, on feeders: each takes from somewhere, and is the only consumer of each place that it takes from.
 #[tactic(auto, unfolding(theory::specs::Tests::every))]
-pub fn are_pre_feeders(net: &Net<'_>, p: u8) -> bool
+pub(crate) fn are_pre_feeders(net: &Net<'_>, p: u8) -> bool
     ensures { result ≡ pre_feeders? (view net.now) p }
 {
     transitions(net).all(|h| is_pre_feeder(net, p, h))
@@ -171,14 +156,14 @@ pub fn are_pre_feeders(net: &Net<'_>, p: u8) -> bool
 
 // Pre- and free agglomeration, on consumers: each takes 1 from p.
 #[tactic(auto, unfolding(theory::specs::Tests::every))]
-pub fn are_free_consumers(net: &Net<'_>, p: u8) -> bool
+pub(crate) fn are_free_consumers(net: &Net<'_>, p: u8) -> bool
     ensures { result ≡ free_consumers? (view net.now) p }
 {
     transitions(net).all(|f| take_of(net, f, p) <= 1)
 }
 
 // Are the numbers that an agglomeration leaves within their limits, and the products?
-pub fn merging_fits(net: &Net<'_>, kind: Kind, p: u8) -> bool
+pub(crate) fn merging_fits(net: &Net<'_>, kind: Kind, p: u8) -> bool
     ensures { result ≡ (rest_fits? (view net.now) p && products_fit? (view net.now) p (product_row kind (view net.now) p)) }
 {
     rest_fits(net, p) && products_fit(net, kind, p)

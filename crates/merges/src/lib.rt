@@ -3,8 +3,8 @@
 
 ghost use Rattle.std.specs.Prelude.{◌≡◌, true, refl};
 ghost use Rattle.net.specs.Refusals.{judged, Passes};
-ghost use Rattle.net.specs.Looks.{sheet_checks};
-ghost use Rattle.net.specs.States.{view, Answered};
+ghost use Rattle.net.specs.Looks.{Leaves};
+ghost use Rattle.net.specs.States.{view};
 ghost use Rattle.books.specs.Faults.{book_number, from_net, from_bytes, from_step};
 ghost use Rattle.books.specs.House.{plain, owns, own_checked, step_of};
 ghost use Rattle.merges.specs.Merges.{merge_width, merge_taken, first_lines, last_lines};
@@ -111,7 +111,7 @@ fn check_free(net: &Net<'_>, p: u8) -> Result<(), Refusal>
 // Replaces the feeders and consumers of p by their products, where the last questions have passed.
 fn merge_products(net: &mut Net<'_>, kind: Kind, p: u8) -> Result<(), NetFault>
     requires { Passes (merge_checks (view net.old) p (merging (product_row kind (view net.old) p) p (view net.old))) }
-    ensures { Answered result (view net.new) (view net.old) (judged (sheet_checks (view net.old)) (merging (product_row kind (view net.old) p) p (view net.old))) }
+    ensures { Leaves result (view net.new) (view net.old) (merging (product_row kind (view net.old) p) p (view net.old)) }
 {
     merge(net, kind, p)
 }
@@ -140,7 +140,7 @@ fn check(net: &Net<'_>, step: Step<'_>) -> Result<(), MergeFault>
 fn rewrite(net: &mut Net<'_>, step: Step<'_>) -> Result<(), NetFault>
     requires own { owns merge_width (plain step) ≡ true }
     requires passes { Passes (table (view net.old) (plain step)) }
-    ensures { Answered result (view net.new) (view net.old) (judged (sheet_checks (view net.old)) (next (view net.old) (plain step.entry))) }
+    ensures { Leaves result (view net.new) (view net.old) (next (view net.old) (plain step.entry)) }
 {
     match step {
         Step::PostAgglomerate(p) => merge_products(net, Kind::Post, p),

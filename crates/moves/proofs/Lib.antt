@@ -1,3 +1,4 @@
-pub mod Ahead
+pub mod Carrying
+pub mod Firings
 pub mod Fusing
 pub mod Sources

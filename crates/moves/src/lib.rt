@@ -1,49 +1,50 @@
 // The fourth house book: tokens are moved by firings ahead of time, or by fusing two places.
 #![tactic(auto)]
 
-ghost use Rattle.std.specs.Prelude.{◌≡◌, ℕ, ◌+◌, ◌*◌, ◌<◌, ◌≤◌, true, false, length, ◌==◌, ◌≢◌, slice_index, refl};
+ghost use Rattle.std.specs.Prelude.{◌≡◌, ℕ, ◌+◌, ◌*◌, ◌<◌, ◌≤◌, true, false, length, ◌==◌, ◌≢◌, IfOk, IfErr, refl};
 ghost use Rattle.net.specs.Refusals.{judged, Passes};
-ghost use Rattle.net.specs.Looks.{sheet_checks};
-ghost use Rattle.net.specs.States.{view, stands, Answered};
+ghost use Rattle.net.specs.Looks.{Leaves, measured};
+ghost use Rattle.net.specs.States.{view, stands};
 ghost use Rattle.books.specs.Faults.{book_number, from_net, from_bytes, from_step};
 ghost use Rattle.books.specs.House.{plain, owns, own_checked, step_of};
 ghost use Rattle.moves.specs.Columns.{SumsFit, Added};
 ghost use Rattle.moves.specs.Moves.{move_width, move_taken};
 ghost use Rattle.theory.specs.Rewrites.{firing_ahead, fusing};
 ghost use Rattle.theory.specs.Steps.{refusal_number, table, next, fire_ahead, fuse_places};
-ghost use Rattle.theory.specs.Tests.{mark_ahead, ahead_fits?, fusion_fits?};
+ghost use Rattle.theory.specs.Tests.{ahead_fits?, fusion_fits?};
 ghost use Rattle.books.proofs.Housing.{house_keeps, house_refuses};
 ghost use Rattle.books.proofs.Owning.{narrow};
 
+mod ahead;
 mod conditions;
 
+use ahead::Ahead;
 use books::Book;
 use books::faults::{BookFault, Misfit};
 use books::step::{Owned, Step};
 use checks::{is_there, stands_at, supports_at};
-use conditions::{ahead_fits, carry_both_ways, fusion_fits, is_ahead, mark_ahead, suffices};
-use net::{Net, NetFault};
+use conditions::{carry_both_ways, fusion_fits};
+use net::{Net, NetFault, SHEET_SIZE};
 use rewrites::{remove_place, write_marks};
-use std::array;
 use theory::Refusal;
 
 // The questions of the step that fires a transition ahead of time.
-fn check_ahead(net: &Net<'_>, t: u8, k: u16) -> Result<(), Refusal>
-    ensures { result ≡ judged (table (view net.now) (fire_ahead t k)) tt }
+fn check_ahead(net: &Net<'_>, ahead: Ahead) -> Result<(), Refusal>
+    ensures { result ≡ judged (table (view net.now) (fire_ahead ahead.t ahead.k)) tt }
 {
-    if !is_there(net, t) {
+    if !is_there(net, ahead.t) {
         return Err(Refusal::NoTransition);
     }
-    if k == 0 {
+    if ahead.k == 0 {
         return Err(Refusal::Nothing);
     }
-    if !is_ahead(net, t) {
+    if !ahead.is_allowed(net) {
         return Err(Refusal::Arcs);
     }
-    if !suffices(net, t, k) {
+    if !ahead.suffices(net) {
         return Err(Refusal::Marks);
     }
-    if !ahead_fits(net, t, k) {
+    if !ahead.fits(net) {
         return Err(Refusal::PastLimit);
     }
     Ok(())
@@ -74,35 +75,18 @@ fn check_fusion(net: &Net<'_>, p: u8, q: u8, a: u8, b: u8) -> Result<(), Refusal
     Ok(())
 }
 
-// The mark of place p after k firings of t, which is within its limit.
-fn mark_for(net: &Net<'_>, t: u8, k: u16, p: usize) -> u32
-    requires { (ahead_fits? (view net.now) t k ≡ true) × (p < 64) }
-    ensures { result ≡ mark_ahead (view net.now) t k p }
-{
-    mark_ahead(net, t, k, p as u8) as u32
-}
-
-// The marks after k firings of t, which are within their limit.
-fn marks_ahead(net: &Net<'_>, t: u8, k: u16) -> [u32; 64]
-    requires { ahead_fits? (view net.now) t k ≡ true }
-    ensures { (p : ℕ) → p < 64 → slice_index result p ≡ mark_ahead (view net.now) t k p }
-{
-    array::from_fn(|p| mark_for(net, t, k, p))
-}
-
 // Fires a transition k times.
-fn fire_times(net: &mut Net<'_>, t: u8, k: u16) -> Result<(), NetFault>
-    requires { ahead_fits? (view net.old) t k ≡ true }
-    ensures { Answered result (view net.new) (view net.old) (judged (sheet_checks (view net.old)) (firing_ahead t k (view net.old))) }
+fn fire_times(net: &mut Net<'_>, ahead: Ahead) -> Result<(), NetFault>
+    requires { ahead_fits? (view net.old) ahead.t ahead.k ≡ true }
+    ensures { Leaves result (view net.new) (view net.old) (firing_ahead ahead.t ahead.k (view net.old)) }
 {
-    write_marks(net, &marks_ahead(net, t, k))
+    write_marks(net, &ahead.marks(net))
 }
 
-// Adds the numbers of q to those of p in the marks and the first n rows. The parts are numbered, since a proof knows nothing of
-// what is written through `chunks_exact_mut`; and the sheet is a slice, since an array of it would need a case that never comes.
-fn add_place(sheet: &mut [u32], n: usize, p: usize, q: usize)
-    requires sheet { (length sheet.old ≡ 12352) × (n ≤ 96) }
-    requires places { (p < 64) × ((q < 64) × ((p ≢ q))) }
+// Adds the numbers of q to those of p in the marks and the first n rows of a sheet of the right size. The parts are numbered, since
+// a proof knows nothing of what is written through `chunks_exact_mut`.
+fn add_parts(sheet: &mut [u32; SHEET_SIZE], n: usize, p: usize, q: usize)
+    requires places { (n ≤ 96) × ((p < 64) × ((q < 64) × (p ≢ q))) }
     requires sums { SumsFit sheet.old n p q }
     ensures { Added sheet.old sheet.new (1 + 2 * n) p q }
 {
@@ -111,15 +95,27 @@ fn add_place(sheet: &mut [u32], n: usize, p: usize, q: usize)
     }
 }
 
+// The same on a sheet that has the right size; another one stays as it is.
+fn add_place(sheet: &mut [u32], n: usize, p: usize, q: usize) -> Result<(), NetFault>
+    requires places { (n ≤ 96) × ((p < 64) × ((q < 64) × (p ≢ q))) }
+    requires sums { SumsFit sheet.old n p q }
+    ensures answer { result ≡ measured sheet.old }
+    ensures added { IfOk result (λ _. Added sheet.old sheet.new (1 + 2 * n) p q) }
+    ensures same { IfErr result (λ _. sheet.new ≡ sheet.old) }
+{
+    let sheet = sheet.as_mut_array().ok_or(NetFault::WrongSize)?;
+    add_parts(sheet, n, p, q);
+    Ok(())
+}
+
 // Fuses place q with p, where both stand.
 fn fuse_net(net: &mut Net<'_>, p: u8, q: u8) -> Result<(), NetFault>
     requires places { (stands (view net.old) p ≡ true) × ((stands (view net.old) q ≡ true) × ((p == q) ≡ false)) }
     requires sums { fusion_fits? (view net.old) p q ≡ true }
-    ensures { Answered result (view net.new) (view net.old) (judged (sheet_checks (view net.old)) (fusing p q (view net.old))) }
+    ensures { Leaves result (view net.new) (view net.old) (fusing p q (view net.old)) }
 {
-    net.check_size()?;
     let n = net.shape.transitions;
-    add_place(net.sheet, n, usize::from(p), usize::from(q));
+    add_place(net.sheet, n, usize::from(p), usize::from(q))?;
     remove_place(net, usize::from(q))
 }
 
@@ -135,7 +131,7 @@ fn check(net: &Net<'_>, step: Step<'_>) -> Result<(), MoveFault>
     ensures { result ≡ own_checked from_bytes from_step move_width (view net.now) (plain step.entry) }
 {
     match step {
-        Step::FireAhead(t, k) => check_ahead(net, t, k)?,
+        Step::FireAhead(t, k) => check_ahead(net, Ahead { t, k })?,
         Step::FusePlaces(p, q, a, b) => check_fusion(net, p, q, a, b)?,
         _ => return Err(BookFault::Bytes(Misfit::Unknown)),
     }
@@ -146,10 +142,10 @@ fn check(net: &Net<'_>, step: Step<'_>) -> Result<(), MoveFault>
 fn rewrite(net: &mut Net<'_>, step: Step<'_>) -> Result<(), NetFault>
     requires own { owns move_width (plain step) ≡ true }
     requires passes { Passes (table (view net.old) (plain step)) }
-    ensures { Answered result (view net.new) (view net.old) (judged (sheet_checks (view net.old)) (next (view net.old) (plain step.entry))) }
+    ensures { Leaves result (view net.new) (view net.old) (next (view net.old) (plain step.entry)) }
 {
     match step {
-        Step::FireAhead(t, k) => fire_times(net, t, k),
+        Step::FireAhead(t, k) => fire_times(net, Ahead { t, k }),
         Step::FusePlaces(p, q, _, _) => fuse_net(net, p, q),
         _ => unreachable!(),
     }

@@ -1,32 +1,24 @@
 // The conditions of the second house book's steps, each by the name of its definition. All use the set out of the step's own bytes.
 ghost use Rattle.std.specs.Prelude.{◌≡◌, ℕ, Bool, not};
 ghost use Rattle.net.specs.States.{view};
-ghost use Rattle.theory.specs.Tests.{member, takes_from?, puts_into?, siphon?, dry?, outside, falls?, sufficient?, holds_support?, members_stand?, has_member?};
+ghost use Rattle.sets.specs.Sets.{touches?};
+ghost use Rattle.theory.specs.Tests.{member, takes_from?, siphon?, dry?, outside, falls?, sufficient?, holds_support?, members_stand?, has_member?};
 
 use checks::{
     Test, Transition, is_member, mark_of, places, put_of, stands_at, supports_at, take_of,
-    transitions,
+    transitions, weight_of,
 };
-use net::Net;
+use net::{Net, Side};
 
-// Does t take from the set? This and the next two are three functions and not one: with closures for the places and the weights, the
-// contract would be longer than all three.
+// Does t touch the set on this side?
 #[tactic(auto, unfolding(theory::specs::Tests::some))]
-fn takes_from(net: &Net<'_>, set: &[u8; 8], t: u8) -> bool
-    ensures { result ≡ takes_from? (view net.now) (member set.now) t }
+fn touches(net: &Net<'_>, side: Side, set: &[u8; 8], t: u8) -> bool
+    ensures { result ≡ touches? side (view net.now) (member set.now) t }
 {
-    places().any(|p| is_member(set, p) && take_of(net, t, p) > 0)
+    places().any(|p| is_member(set, p) && weight_of(net, side, t, p) > 0)
 }
 
-// Does t put into the set?
-#[tactic(auto, unfolding(theory::specs::Tests::some))]
-fn puts_into(net: &Net<'_>, set: &[u8; 8], t: u8) -> bool
-    ensures { result ≡ puts_into? (view net.now) (member set.now) t }
-{
-    places().any(|p| is_member(set, p) && put_of(net, t, p) > 0)
-}
-
-// Does t take from outside the set?
+// Does t take from outside the set? This stays apart: the set is used out of the step's own bytes, and its complement would be a copy.
 #[tactic(auto, unfolding(theory::specs::Tests::some))]
 fn takes_outside(net: &Net<'_>, set: &[u8; 8], t: u8) -> bool
     ensures { result ≡ takes_from? (view net.now) (outside (member set.now)) t }
@@ -36,7 +28,7 @@ fn takes_outside(net: &Net<'_>, set: &[u8; 8], t: u8) -> bool
 
 // Do all places of the set stand?
 #[tactic(auto, unfolding(theory::specs::Tests::every))]
-pub fn members_stand(net: &Net<'_>, set: &[u8; 8]) -> bool
+pub(crate) fn members_stand(net: &Net<'_>, set: &[u8; 8]) -> bool
     ensures { result ≡ members_stand? (view net.now) (member set.now) }
 {
     places().all(|p| !is_member(set, p) || stands_at(net, p))
@@ -44,7 +36,7 @@ pub fn members_stand(net: &Net<'_>, set: &[u8; 8]) -> bool
 
 // Is there a place in the set?
 #[tactic(auto, unfolding(theory::specs::Tests::some))]
-pub fn has_member(set: &[u8; 8]) -> bool
+pub(crate) fn has_member(set: &[u8; 8]) -> bool
     ensures { result ≡ has_member? (member set.now) }
 {
     places().any(|p| is_member(set, p))
@@ -52,15 +44,15 @@ pub fn has_member(set: &[u8; 8]) -> bool
 
 // Does every transition that puts into the set take from it?
 #[tactic(auto, unfolding(theory::specs::Tests::every))]
-pub fn is_siphon(net: &Net<'_>, set: &[u8; 8]) -> bool
+pub(crate) fn is_siphon(net: &Net<'_>, set: &[u8; 8]) -> bool
     ensures { result ≡ siphon? (view net.now) (member set.now) }
 {
-    transitions(net).all(|t| !puts_into(net, set, t) || takes_from(net, set, t))
+    transitions(net).all(|t| !touches(net, Side::Puts, set, t) || touches(net, Side::Takes, set, t))
 }
 
 // Is the mark of each place of the set 0?
 #[tactic(auto, unfolding(theory::specs::Tests::every))]
-pub fn is_dry(net: &Net<'_>, set: &[u8; 8]) -> bool
+pub(crate) fn is_dry(net: &Net<'_>, set: &[u8; 8]) -> bool
     ensures { result ≡ dry? (view net.now) (member set.now) }
 {
     places().all(|p| !is_member(set, p) || mark_of(net, p) == 0)
@@ -68,7 +60,7 @@ pub fn is_dry(net: &Net<'_>, set: &[u8; 8]) -> bool
 
 // Is every place of the support in the set?
 #[tactic(auto, unfolding(theory::specs::Tests::every))]
-pub fn holds_support(net: &Net<'_>, set: &[u8; 8]) -> bool
+pub(crate) fn holds_support(net: &Net<'_>, set: &[u8; 8]) -> bool
     ensures { result ≡ holds_support? (view net.now) (member set.now) }
 {
     places().all(|p| !supports_at(net, p) || is_member(set, p))
@@ -88,15 +80,15 @@ fn falls(net: &Net<'_>, set: &[u8; 8], t: u8) -> bool
 
 // Does every transition that takes from outside the set fall?
 #[tactic(auto, unfolding(theory::specs::Tests::every))]
-pub fn is_sufficient(net: &Net<'_>, set: &[u8; 8]) -> bool
+pub(crate) fn is_sufficient(net: &Net<'_>, set: &[u8; 8]) -> bool
     ensures { result ≡ sufficient? (view net.now) (member set.now) }
 {
     transitions(net).all(|t| !takes_outside(net, set, t) || falls(net, set, t))
 }
 
 // Does the transition take nothing from the set? This test and the next are values, since a rewrite is handed them.
-#[derive(Drop)]
-pub struct Spares<'a> {
+#[derive(Clone, Copy, Debug, PartialEq, Eq)]
+pub(crate) struct Spares<'a> {
     pub set: &'a [u8; 8],
 }
 
@@ -106,13 +98,13 @@ impl Test for Spares<'_> {
     ghost holds = { λ x s t. not (takes_from? s (member x.set.now) t) };
 
     fn test(&self, net: &Net<'_>, t: u8) -> bool {
-        !takes_from(net, self.set, t)
+        !touches(net, Side::Takes, self.set, t)
     }
 }
 
 // Does the transition take from the set alone?
-#[derive(Drop)]
-pub struct StaysInside<'a> {
+#[derive(Clone, Copy, Debug, PartialEq, Eq)]
+pub(crate) struct StaysInside<'a> {
     pub set: &'a [u8; 8],
 }
 

@@ -3,8 +3,8 @@
 
 ghost use Rattle.std.specs.Prelude.{◌≡◌, ℕ, true, length, refl};
 ghost use Rattle.net.specs.Refusals.{judged, Passes};
-ghost use Rattle.net.specs.Looks.{sheet_checks};
-ghost use Rattle.net.specs.States.{view, Answered};
+ghost use Rattle.net.specs.Looks.{Leaves};
+ghost use Rattle.net.specs.States.{view};
 ghost use Rattle.books.specs.Faults.{book_number, from_net, from_bytes, from_step};
 ghost use Rattle.books.specs.House.{plain, owns, own_checked, step_of};
 ghost use Rattle.sets.specs.Sets.{set_width, set_taken};
@@ -68,7 +68,7 @@ fn check_limit(net: &Net<'_>, set: &[u8; 8]) -> Result<(), Refusal>
 
 // Drops the transitions that take from outside a set, and removes the places outside it.
 fn limit_net(net: &mut Net<'_>, set: &[u8; 8]) -> Result<(), NetFault>
-    ensures { Answered result (view net.new) (view net.old) (judged (sheet_checks (view net.old)) (limiting (member set.now) (view net.old))) }
+    ensures { Leaves result (view net.new) (view net.old) (limiting (member set.now) (view net.old)) }
 {
     keep_where(net, &StaysInside { set })?;
     limit_places(net, set)
@@ -97,7 +97,7 @@ fn check(net: &Net<'_>, step: Step<'_>) -> Result<(), SetFault>
 fn rewrite(net: &mut Net<'_>, step: Step<'_>) -> Result<(), NetFault>
     requires own { owns set_width (plain step) ≡ true }
     requires passes { Passes (table (view net.old) (plain step)) }
-    ensures { Answered result (view net.new) (view net.old) (judged (sheet_checks (view net.old)) (next (view net.old) (plain step.entry))) }
+    ensures { Leaves result (view net.new) (view net.old) (next (view net.old) (plain step.entry)) }
 {
     match step {
         Step::DropSiphon(set) => keep_where(net, &Spares { set }),

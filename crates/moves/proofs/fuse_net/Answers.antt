@@ -7,15 +7,15 @@ use Rattle.moves.specs.Columns.{Added}
 use Rattle.moves.proofs.Fusing.{sums_fit, fused_net, asked_size, size_asked}
 use Rattle.moves.proofs.fuse_net.Goals as goal
 
-pub add_place-requires-clause-sheet : goal.add_place-requires-clause-sheet
-add_place-requires-clause-sheet c = (eqb-true _ 12352 (asked_size (view c.args.net.now) (sym c.in_ok-check_size.ensures)), c.args.net.now.shape.few)
-
 pub add_place-requires-clause-places : goal.add_place-requires-clause-places
 add_place-requires-clause-places c = (
-  omega (arith, c.from.ensures, flag_below c.args.net.now.shape.standing c.args.p c.requires.places.0),
+  c.args.net.now.shape.few,
   (
-    omega (arith, c.from-2.ensures, flag_below c.args.net.now.shape.standing c.args.q c.requires.places.1.0),
-    λ e. eqb-false c.args.p c.args.q c.requires.places.1.1 (sym c.from.ensures ∙ e ∙ c.from-2.ensures),
+    omega (arith, c.from.ensures, flag_below c.args.net.now.shape.standing c.args.p c.requires.places.0),
+    (
+      omega (arith, c.from-2.ensures, flag_below c.args.net.now.shape.standing c.args.q c.requires.places.1.0),
+      λ e. eqb-false c.args.p c.args.q c.requires.places.1.1 (sym c.from.ensures ∙ e ∙ c.from-2.ensures),
+    ),
   ),
 )
 
@@ -30,8 +30,8 @@ returns c =
     let a : c.args.p < 64 = omega (arith, flag_below c.args.net.now.shape.standing c.args.p c.requires.places.0) in
     let b : c.args.q < 64 = omega (arith, flag_below c.args.net.now.shape.standing c.args.q c.requires.places.1.0) in
     let x : Added (view c.args.net.now).sheet c.add_place.new.sheet (1 + 2 * c.args.net.now.shape.transitions) c.args.p c.args.q =
-    rw (sym c.from.ensures, sym c.from-2.ensures) c.add_place.ensures in
-    let size = asked_size (view c.args.net.now) (sym c.in_ok-check_size.ensures) in
+    rw (sym c.from.ensures, sym c.from-2.ensures) c.in_ok-add_place.ensures.added in
+    let size = asked_size (view c.args.net.now) (sym c.add_place.ensures.answer ∙ c.in_ok-add_place.was) in
     size_asked (view c.args.net.now) (fusing c.args.p c.args.q (view c.args.net.now)) (view c.remove_place.new.net) c.remove_place.result size
     (fused_net (view c.args.net.now) c.add_place.new.sheet c.args.p c.args.q a b (eqb-false c.args.p c.args.q c.requires.places.1.1)
     x c.remove_place.result (view c.remove_place.new.net) (omega (arith, eqb-true (length c.args.net.now.sheet.now) 12352 size))

@@ -3,7 +3,7 @@ use Rattle.net.specs.Refusals.{Passes}
 use Rattle.net.specs.States.{view}
 use Rattle.books.specs.House.{plain}
 use Rattle.theory.specs.Steps.{table}
-use Rattle.moves.proofs.Ahead.{ahead_passed}
+use Rattle.moves.proofs.Firings.{ahead_passed}
 use Rattle.moves.proofs.Fusing.{fusion_passed}
 use Rattle.moves.proofs.rewrite.Goals as goal
 

@@ -1,8 +1,0 @@
-use Rattle.std.proofs.Common.{rules}
-use Rattle.checks.proofs.Made.{made}
-use Rattle.net.specs.States.{view}
-use Rattle.theory.specs.Tests.{mark_ahead}
-use Rattle.moves.proofs.marks_ahead.Goals as goal
-
-pub returns : goal.returns
-returns c = λ p h. made (mark_ahead (view c.args.net.now) c.args.t c.args.k) (λ j y q e. search rules) c.from_fn.result 64 c.from_fn.ensures.items p 0 h
