@@ -1,7 +1,7 @@
 // Firings of a transition ahead of time.
 ghost use Rattle.std.specs.Prelude.{◌≡◌, ℕ, ◌*◌, ◌<◌, ◌&&◌, true, slice_index, nat_le};
 ghost use Rattle.net.specs.States.{view, mark, take};
-ghost use Rattle.theory.specs.Tests.{every_place, ahead?, suffices?, mark_ahead, ahead_fits?, rows_fit?};
+ghost use Rattle.theory.specs.Tests.{ahead?, suffices?, mark_ahead, ahead_fits?, rows_fit?};
 
 use crate::conditions::{MOST_MARK, is_only};
 use checks::{Source, first, mark_of, places, put_of, rows_fit, take_of};

@@ -1,10 +1,10 @@
 // The conditions of the fourth house book's steps, each by the name of its definition.
-ghost use Rattle.std.specs.Prelude.{◌≡◌, ◌+◌, ◌&&◌, ◌==◌, not, nat_eq, nat_le};
+ghost use Rattle.std.specs.Prelude.{◌≡◌, ◌+◌, ◌&&◌, nat_le};
 ghost use Rattle.net.specs.Sheets.{most_weight};
-ghost use Rattle.net.specs.States.{view, in_support, take, put};
+ghost use Rattle.net.specs.States.{view, take, put};
 ghost use Rattle.moves.specs.Moves.{hidden_at, only_at};
 ghost use Rattle.theory.specs.Steps.{in_limits?};
-ghost use Rattle.theory.specs.Tests.{◌⇒◌, every_place, every_transition, carries?, fusion_fits?};
+ghost use Rattle.theory.specs.Tests.{every_transition, carries?, fusion_fits?};
 
 use checks::{
     OnlyConsumer, every, in_limits, mark_of, put_of, spares_support, supports_at, take_of,

@@ -1,7 +1,7 @@
 // The fourth house book: tokens are moved by firings ahead of time, or by fusing two places.
 #![tactic(auto)]
 
-ghost use Rattle.std.specs.Prelude.{◌≡◌, ℕ, ◌+◌, ◌*◌, ◌<◌, ◌≤◌, true, false, length, ◌==◌, ◌≢◌, IfOk, IfErr, refl};
+ghost use Rattle.std.specs.Prelude.{◌≡◌, ◌+◌, ◌*◌, ◌<◌, ◌≤◌, true, false, ◌==◌, ◌≢◌, IfOk, IfErr, refl};
 ghost use Rattle.net.specs.Refusals.{judged, Passes};
 ghost use Rattle.net.specs.Looks.{Leaves, measured};
 ghost use Rattle.net.specs.States.{view, stands};

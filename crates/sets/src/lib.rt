@@ -1,15 +1,14 @@
 // The second house book: steps that name a set of places.
 #![tactic(auto)]
 
-ghost use Rattle.std.specs.Prelude.{◌≡◌, ℕ, true, length, refl};
+ghost use Rattle.std.specs.Prelude.{◌≡◌, true, refl};
 ghost use Rattle.net.specs.Refusals.{judged, Passes};
 ghost use Rattle.net.specs.Looks.{Leaves};
 ghost use Rattle.net.specs.States.{view};
 ghost use Rattle.books.specs.Faults.{book_number, from_net, from_bytes, from_step};
 ghost use Rattle.books.specs.House.{plain, owns, own_checked, step_of};
 ghost use Rattle.sets.specs.Sets.{set_width, set_taken};
-ghost use Rattle.theory.specs.Rewrites.{keeping, limiting};
-ghost use Rattle.rewrites.specs.Rows.{limited_to};
+ghost use Rattle.theory.specs.Rewrites.{limiting};
 ghost use Rattle.theory.specs.Steps.{refusal_number, table, next, drop_siphon, limit_to};
 ghost use Rattle.theory.specs.Tests.{member};
 ghost use Rattle.books.proofs.Housing.{house_keeps, house_refuses};
