@@ -8,7 +8,7 @@ ghost use Rattle.books.specs.Faults.{book_number, from_net, from_bytes, from_ste
 use net::NetFault;
 use theory::Refusal;
 
-// What has the number of a refusal. The numbers are the ones that are printed; each stands beside its name in one table.
+// What has the number of a refusal. The numbers are the ones that are printed; each stands beside its name in the enum.
 pub trait Numbered {
     ghost number_of: { Self → ℕ };
 
@@ -16,23 +16,19 @@ pub trait Numbered {
         ensures { result ≡ number_of self.now };
 }
 
-// Why bytes are not one whole step: they end too early, nobody owns the first, or more bytes follow.
+// Why bytes are not one whole step, with the number that is told: they end too early, nobody owns the first, or more bytes follow.
 #[derive(Clone, Copy, Debug, PartialEq, Eq)]
 pub enum Misfit {
-    Short,
-    Unknown,
-    Long,
+    Short = 2,
+    Unknown = 3,
+    Long = 4,
 }
 
 impl Numbered for Misfit {
     ghost number_of = { misfit_number };
 
     fn number(&self) -> u8 {
-        match self {
-            Misfit::Short => 2,
-            Misfit::Unknown => 3,
-            Misfit::Long => 4,
-        }
+        *self as u8
     }
 }
 
@@ -40,19 +36,7 @@ impl Numbered for Refusal {
     ghost number_of = { refusal_number };
 
     fn number(&self) -> u8 {
-        match self {
-            Refusal::NotServed => 13,
-            Refusal::NoTransition => 8,
-            Refusal::NoPlace => 9,
-            Refusal::NotDistinct => 14,
-            Refusal::Nothing => 15,
-            Refusal::Support => 16,
-            Refusal::Arcs => 17,
-            Refusal::Marks => 18,
-            Refusal::TooManyPairs => 19,
-            Refusal::TooManyRows => 20,
-            Refusal::PastLimit => 21,
-        }
+        u8::from(*self)
     }
 }
 

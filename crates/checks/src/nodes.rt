@@ -114,7 +114,7 @@ fn flag<T: Test>(net: &Net<'_>, test: &T, i: usize) -> bool
 
 // The flags of the nodes: true for those of which the test holds, false past the last. They are as many as there may be transitions,
 // since nothing is allocated.
-pub fn flags<T: Test>(net: &Net<'_>, test: &T) -> [bool; 96]
+pub fn flags<T: Test>(net: &Net<'_>, test: &T) -> [bool; MOST_TRANSITIONS]
     ensures { (i : ℕ) → slice_index_or result i false ≡ (nat_lt i (T.Of.count (view net.now)) && T.Test.holds test.now (view net.now) i) }
 {
     array::from_fn(|i| flag(net, test, i))

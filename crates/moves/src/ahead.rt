@@ -79,7 +79,7 @@ impl Ahead {
     }
 
     // The marks afterwards, which are within their limit.
-    pub(crate) fn marks(self, net: &Net<'_>) -> [u32; 64]
+    pub(crate) fn marks(self, net: &Net<'_>) -> [u32; MOST_PLACES]
         requires { ahead_fits? (view net.now) self.t self.k ≡ true }
         ensures { (p : ℕ) → p < 64 → slice_index result p ≡ mark_ahead (view net.now) self.t self.k p }
     {

@@ -17,20 +17,22 @@ mod net;
 pub use draft::Draft;
 pub use net::{Layer, Look, Net, NetFault, Origin, Placed, Position, Question, Shape, Side, Told};
 
-// The size of a sheet, the most places and transitions of a net, and the largest weight.
-pub const SHEET_SIZE: usize = 12_352;
-
+// The most places and transitions of a net, the numbers of a transition's row, the size of a sheet, and the largest weight.
 pub const MOST_PLACES: usize = 64;
 
 pub const MOST_TRANSITIONS: usize = 96;
+
+pub const ROW_SIZE: usize = 128;
+
+pub const SHEET_SIZE: usize = 12_352;
 
 pub const MOST_WEIGHT: u32 = 65_535;
 
 // What is known of the empty net.
 const EMPTY: Shape = Shape {
     transitions: 0,
-    standing: [false; 64],
-    support: [false; 64],
+    standing: [false; MOST_PLACES],
+    support: [false; MOST_PLACES],
     question: Question::Reach,
 };
 
@@ -39,11 +41,7 @@ impl From<Question> for u32 {
     ghost from_gives = { λ q r. r ≡ question_number q };
 
     fn from(question: Question) -> u32 {
-        match question {
-            Question::Reach => 1,
-            Question::Standstill => 2,
-            Question::Both => 3,
-        }
+        question as u32
     }
 }
 
@@ -80,19 +78,8 @@ impl NetFault {
     pub fn told(self) -> Told
         ensures { result ≡ net_told self }
     {
-        let number = match self {
-            NetFault::WrongSize => 1,
-            NetFault::TooManyPlaces => 5,
-            NetFault::BadFlag => 6,
-            NetFault::TooManyTransitions => 7,
-            NetFault::NoTransition => 8,
-            NetFault::NoPlace => 9,
-            NetFault::BadWeight => 10,
-            NetFault::ArcExists => 11,
-            NetFault::BadQuestion => 12,
-        };
         Told {
-            number,
+            number: self as u8,
             origin: Position::START.origin(Layer::Net),
         }
     }
@@ -134,14 +121,14 @@ fn prepare(sheet: &mut [u32])
 }
 
 // The lowest number that no place has, if a net may have one more.
-fn next_place(standing: &[bool; 64]) -> Option<usize>
+fn next_place(standing: &[bool; MOST_PLACES]) -> Option<usize>
     ensures { result ≡ position not standing.now }
 {
     standing.iter().position(|stands| !*stands)
 }
 
 // The flag of a place: false past the last one.
-pub fn flag_at(flags: &[bool; 64], p: usize) -> bool
+pub fn flag_at(flags: &[bool; MOST_PLACES], p: usize) -> bool
     ensures value { result ≡ slice_index_or flags.now p false }
     ensures within { result ≡ true → p < 64 }
 {
@@ -239,12 +226,14 @@ impl Net<'_> {
     {
         self.check_size()?;
         let p = next_place(&self.shape.standing).ok_or(NetFault::TooManyPlaces)?;
-        if flag > 1 {
-            return Err(NetFault::BadFlag);
-        }
+        let in_support = match flag {
+            0 => false,
+            1 => true,
+            _ => return Err(NetFault::BadFlag),
+        };
         self.sheet[p] = mark;
         self.shape.standing[p] = true;
-        self.shape.support[p] = flag == 1;
+        self.shape.support[p] = in_support;
         Ok(())
     }
 

@@ -1,21 +1,23 @@
 // The net's own types: what it is kept in, what it is asked, and what it refuses.
 ghost use Rattle.std.specs.Prelude.{◌≤◌};
 
-// What is asked of a net: which support numbers are reachable, with which a dead marking is reachable, or both.
+use crate::MOST_PLACES;
+
+// What is asked of a net, by its number: which support numbers are reachable, with which a dead marking is reachable, or both.
 #[derive(Clone, Copy, Debug, PartialEq, Eq)]
 pub enum Question {
-    Reach,
-    Standstill,
-    Both,
+    Reach = 1,
+    Standstill = 2,
+    Both = 3,
 }
 
 // What is known of a net beside its sheet, in arrays of fixed size, since nothing is allocated. Standing and support are two lists,
 // since each is a list of its own in the definitions, and a place that goes may have been in the support.
-#[derive(Clone, Copy)]
+#[derive(Clone, Copy, Debug, PartialEq, Eq)]
 pub struct Shape {
     pub transitions: usize,
-    pub standing: [bool; 64],
-    pub support: [bool; 64],
+    pub standing: [bool; MOST_PLACES],
+    pub support: [bool; MOST_PLACES],
     pub question: Question,
     ghost few: { transitions ≤ 96 },
 }
@@ -35,18 +37,18 @@ pub enum Side {
     Puts,
 }
 
-// Why the net refuses a call.
+// Why the net refuses a call, with the number that is told.
 #[derive(Clone, Copy, Debug, PartialEq, Eq)]
 pub enum NetFault {
-    WrongSize,
-    TooManyPlaces,
-    BadFlag,
-    TooManyTransitions,
-    NoTransition,
-    NoPlace,
-    BadWeight,
-    ArcExists,
-    BadQuestion,
+    WrongSize = 1,
+    TooManyPlaces = 5,
+    BadFlag = 6,
+    TooManyTransitions = 7,
+    NoTransition = 8,
+    NoPlace = 9,
+    BadWeight = 10,
+    ArcExists = 11,
+    BadQuestion = 12,
 }
 
 // The layer that raised a refusal.

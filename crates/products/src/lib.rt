@@ -30,7 +30,7 @@ use weights::weight;
 pub const MOST_PRODUCTS: usize = 32;
 
 // The numbers of their rows.
-type Rows = ArrayVec<[u32; 128], MOST_PRODUCTS>;
+type Rows = ArrayVec<[u32; ROW_SIZE], MOST_PRODUCTS>;
 
 // A number of the row of a product that is within the limits: its takes come first, then its puts.
 fn number_at(net: &Net<'_>, pair: &Pair, j: usize) -> u32
@@ -46,7 +46,7 @@ fn number_at(net: &Net<'_>, pair: &Pair, j: usize) -> u32
 }
 
 // The row of a product that is within the limits.
-fn row(net: &Net<'_>, pair: &Pair) -> [u32; 128]
+fn row(net: &Net<'_>, pair: &Pair) -> [u32; ROW_SIZE]
     requires { Fits (pair_row pair.now (view net.now)) }
     ensures { result ≡ numbers (pair_row pair.now (view net.now)) }
 {
@@ -54,7 +54,7 @@ fn row(net: &Net<'_>, pair: &Pair) -> [u32; 128]
 }
 
 // The product of feeder h and consumer f of p.
-fn product(net: &Net<'_>, kind: Kind, p: u8, h: u8, f: u8) -> [u32; 128]
+fn product(net: &Net<'_>, kind: Kind, p: u8, h: u8, f: u8) -> [u32; ROW_SIZE]
     requires { Fits (product_row kind (view net.now) p h f) }
     ensures { result ≡ numbers (product_row kind (view net.now) p h f) }
 {
@@ -124,7 +124,7 @@ fn check_merge(net: &Net<'_>, kind: Kind, p: u8) -> Result<(), NetFault>
 
 // The flags of the places, false at p. This is not `remove_place`: no row has a number at p any more, and p need not stand.
 #[tactic(auto, using(std::proofs::lemmas::List::set_past))]
-fn flags_without(standing: &[bool; 64], p: u8) -> [bool; 64]
+fn flags_without(standing: &[bool; MOST_PLACES], p: u8) -> [bool; MOST_PLACES]
     ensures { result ≡ slice_set standing.now p false }
 {
     let mut rest = *standing;
@@ -136,7 +136,7 @@ fn flags_without(standing: &[bool; 64], p: u8) -> [bool; 64]
 }
 
 // Drops the feeders and consumers of p, appends rows in their place, and lets p go.
-fn replace_rows(net: &mut Net<'_>, p: u8, rows: &[[u32; 128]]) -> Result<(), NetFault>
+fn replace_rows(net: &mut Net<'_>, p: u8, rows: &[[u32; ROW_SIZE]]) -> Result<(), NetFault>
     requires { length (kept_rows (apart? (view net.old) p) (view net.old)) + length rows.now ≤ 96 }
     ensures { (qs : List Row) → rows.now ≡ map numbers qs → Leaves result (view net.new) (view net.old) (replacing qs p (view net.old)) }
 {

@@ -45,7 +45,7 @@ fn copy_row(sheet: &mut [u32; SHEET_SIZE], from: usize, to: usize)
 }
 
 // Closes up the rows of the transitions that stay.
-fn close_up(sheet: &mut [u32; SHEET_SIZE], shape: &Shape, keep: &[bool; 96])
+fn close_up(sheet: &mut [u32; SHEET_SIZE], shape: &Shape, keep: &[bool; MOST_TRANSITIONS])
     ensures { Closed sheet.old sheet.new (those (λ t. slice_index_or keep.now t false) shape.now.transitions) }
 {
     for (to, t) in (0..shape.transitions).filter(|t| keep[*t]).enumerate() {
@@ -54,7 +54,7 @@ fn close_up(sheet: &mut [u32; SHEET_SIZE], shape: &Shape, keep: &[bool; 96])
 }
 
 // How many transitions stay.
-fn count_kept(shape: &Shape, keep: &[bool; 96]) -> usize
+fn count_kept(shape: &Shape, keep: &[bool; MOST_TRANSITIONS]) -> usize
     ensures count { result ≡ length (those (λ t. slice_index_or keep.now t false) shape.now.transitions) }
     ensures few { result ≤ 96 }
 {
@@ -73,7 +73,7 @@ fn wipe_after(sheet: &mut [u32; SHEET_SIZE], n: usize)
 }
 
 // Keeps the rows of the transitions that stay, closed up, and tells how many they are; what follows becomes 0.
-fn keep_rows(sheet: &mut [u32], shape: &Shape, keep: &[bool; 96]) -> Result<usize, NetFault>
+fn keep_rows(sheet: &mut [u32], shape: &Shape, keep: &[bool; MOST_TRANSITIONS]) -> Result<usize, NetFault>
     ensures answer { result ≡ given sheet.old (length (kept_in (λ t. slice_index_or keep.now t false) sheet.old shape.now.transitions)) }
     ensures few { IfOk result (λ n. n ≤ 96) }
     ensures sheet { sheet.new ≡ written sheet.old (sheet_of (mark_at sheet.old) (kept_in (λ t. slice_index_or keep.now t false) sheet.old shape.now.transitions)) }
@@ -127,7 +127,7 @@ fn leave_outside(sheet: &mut [u32], shape: &Shape, set: &[u8; 8]) -> Result<(), 
 }
 
 // Does the place stand, and is it in the set?
-fn stands_inside(standing: &[bool; 64], set: &[u8; 8], p: usize) -> bool
+fn stands_inside(standing: &[bool; MOST_PLACES], set: &[u8; 8], p: usize) -> bool
     requires { p < 64 }
     ensures { result ≡ (slice_index_or standing.now p false && member set.now p) }
 {
@@ -136,14 +136,14 @@ fn stands_inside(standing: &[bool; 64], set: &[u8; 8], p: usize) -> bool
 }
 
 // The flags of the places, false outside a set.
-fn flags_inside(standing: &[bool; 64], set: &[u8; 8]) -> [bool; 64]
+fn flags_inside(standing: &[bool; MOST_PLACES], set: &[u8; 8]) -> [bool; MOST_PLACES]
     ensures { result ≡ flags_by (λ p. slice_index_or standing.now p false && member set.now p) }
 {
     array::from_fn(|p| stands_inside(standing, set, p))
 }
 
 // Keeps the transitions whose flag is true, and the list closes up; all rows after them become 0.
-pub fn keep_transitions(net: &mut Net<'_>, keep: &[bool; 96]) -> Result<(), NetFault>
+pub fn keep_transitions(net: &mut Net<'_>, keep: &[bool; MOST_TRANSITIONS]) -> Result<(), NetFault>
     ensures { Leaves result (view net.new) (view net.old) (keeping (λ t. slice_index_or keep.now t false) (view net.old)) }
 {
     net.shape.transitions = keep_rows(net.sheet, &net.shape, keep)?;

@@ -10,7 +10,7 @@ use crate::wipe_after;
 use net::{MOST_PLACES, Net, NetFault, Shape};
 
 // Writes the 64 marks in front of the rows; what follows them becomes 0.
-fn mark_rows(sheet: &mut [u32], shape: &Shape, marks: &[u32; 64]) -> Result<(), NetFault>
+fn mark_rows(sheet: &mut [u32], shape: &Shape, marks: &[u32; MOST_PLACES]) -> Result<(), NetFault>
     ensures answer { result ≡ given sheet.old tt }
     ensures sheet { sheet.new ≡ written sheet.old (sheet_of (λ p. slice_index marks.now p) (rows_in sheet.old shape.now.transitions)) }
 {
@@ -22,7 +22,7 @@ fn mark_rows(sheet: &mut [u32], shape: &Shape, marks: &[u32; 64]) -> Result<(), 
 
 // Gives the net these start marks; its transitions and its places stay.
 #[tactic(auto, using(crate::proofs::Marking::length_rows_in))]
-pub fn write_marks(net: &mut Net<'_>, marks: &[u32; 64]) -> Result<(), NetFault>
+pub fn write_marks(net: &mut Net<'_>, marks: &[u32; MOST_PLACES]) -> Result<(), NetFault>
     ensures { Leaves result (view net.new) (view net.old) (rewritten (view net.old) (λ p. slice_index marks.now p) (rows (view net.old)) (view net.old).standing) }
 {
     mark_rows(net.sheet, &net.shape, marks)

@@ -8,7 +8,7 @@ use crate::row_at;
 use net::{MOST_TRANSITIONS, Net, NetFault};
 
 // Writes a row of a sheet.
-fn write_row(sheet: &mut [u32], t: usize, row: &[u32; 128])
+fn write_row(sheet: &mut [u32], t: usize, row: &[u32; ROW_SIZE])
     requires { (length sheet.old ≡ 12352) × (t < 96) }
     ensures row { (j : ℕ) → j < 128 → slice_index sheet.new (64 + 128 * t + j) ≡ slice_index row.now j }
     ensures before { (i : ℕ) → i < 64 + 128 * t → slice_index sheet.new i ≡ slice_index sheet.old i }
@@ -18,7 +18,7 @@ fn write_row(sheet: &mut [u32], t: usize, row: &[u32; 128])
 }
 
 // Writes rows behind the first n rows of a sheet.
-fn write_rows(sheet: &mut [u32], n: usize, rows: &[[u32; 128]])
+fn write_rows(sheet: &mut [u32], n: usize, rows: &[[u32; ROW_SIZE]])
     requires { (length sheet.old ≡ 12352) × (n + length rows.now ≤ 96) }
     ensures { Appended sheet.old sheet.new rows.now n (length rows.now) }
 {
@@ -28,7 +28,7 @@ fn write_rows(sheet: &mut [u32], n: usize, rows: &[[u32; 128]])
 }
 
 // Appends rows to those of the net, each with its takes and then its puts; all else stays as it is.
-pub fn append_rows(net: &mut Net<'_>, rows: &[[u32; 128]]) -> Result<(), NetFault>
+pub fn append_rows(net: &mut Net<'_>, rows: &[[u32; ROW_SIZE]]) -> Result<(), NetFault>
     ensures answer { result ≡ judged (append_checks (view net.old) (length rows.now)) tt }
     ensures appended { IfOk result (λ _. Extended (view net.new) (view net.old) rows.now) }
     ensures refused { IfErr result (λ _. view net.new ≡ view net.old) }
