@@ -1,16 +1,14 @@
 // Reads a net stream from standard input and prints the net: a thin program over the library.
 #![tactic(auto)]
 
-use report::{print, report};
+use report::{MOST_INPUT, print, report};
 use std::io::Read;
-
-// One byte more than the longest input, so that a longer one is seen to be long.
-const MOST_READ: u64 = 32_769;
 
 fn run(rt: &HostRuntime) -> anyhow::Result<()> {
     let heap = rt.alloc();
     let mut input = Vec::new(heap);
-    let mut source = rt.stdin().take(MOST_READ);
+    // One byte more than the longest input, so that a longer one is seen to be long.
+    let mut source = rt.stdin().take(u64::from(MOST_INPUT) + 1);
     source.read_to_end(&mut input)?;
     let lines = report(heap, &input)?;
     rt.print(print(heap, &lines)?)?;

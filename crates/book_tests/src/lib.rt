@@ -11,30 +11,20 @@ mod tests {
     use books::faults::Numbered;
     use books::joined::{EitherFault, join};
     use net::{Draft, Look, Net};
+    use samples::{number, ways};
     use std::test::Fail;
     use stream::read;
 
-    // Places 0 with 2 tokens, 1, and 2 in the support; transition 0 moves one token from 0 to 1, 1 from 1 to 2, 3 from 0 to 2, and 2
-    // moves two from 0 to 1. The question is reach.
-    const WAYS: [u8; 64] = [
-        0x10, 0, 0, 0, 2, 0, 0x10, 0, 0, 0, 0, 0, 0x10, 0, 0, 0, 0, 1, 0x11, 0x11, 0x11, 0x11,
-        0x12, 0, 0, 0, 1, 0x13, 0, 1, 0, 1, 0x12, 1, 1, 0, 1, 0x13, 1, 2, 0, 1, 0x12, 2, 0, 0, 2,
-        0x13, 2, 1, 0, 2, 0x12, 3, 0, 0, 1, 0x13, 3, 2, 0, 1, 0x1f, 1,
-    ];
-
     // The number of the refusal of a step by the customer's book joined with the house book, if it is refused.
     fn refused(net: &mut Net<'_>, step: &[u8]) -> Option<u8> {
-        join(Checkpoint, Basics)
-            .take(net, step)
-            .err()
-            .map(|fault| fault.number())
+        number(join(Checkpoint, Basics).take(net, step))
     }
 
     #[test]
     fn refusals_change_nothing(rt: HostRuntime) -> Result<(), Fail> {
         let mut sheet = vec![in rt.alloc(); 7u32; 12_352]?;
         let mut draft = Draft::start(&mut sheet);
-        assert!(rt; read(&mut draft, &WAYS).is_ok());
+        assert!(rt; read(&mut draft, &ways(1)).is_ok());
         let mut net = draft.finish();
         assert_eq!(rt; refused(&mut net, &[]), Some(2));
         assert_eq!(rt; refused(&mut net, &[0x7f]), Some(3));
@@ -61,7 +51,7 @@ mod tests {
     fn steps_of_both_books(rt: HostRuntime) -> Result<(), Fail> {
         let mut sheet = vec![in rt.alloc(); 7u32; 12_352]?;
         let mut draft = Draft::start(&mut sheet);
-        assert!(rt; read(&mut draft, &WAYS).is_ok());
+        assert!(rt; read(&mut draft, &ways(1)).is_ok());
         let mut net = draft.finish();
         assert_eq!(rt; refused(&mut net, &[0x80, 0, 0, 2]), None);
         assert_eq!(rt; refused(&mut net, &[0x21, 2, 0, 0, 2]), None);

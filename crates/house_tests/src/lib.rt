@@ -7,15 +7,9 @@ mod tests {
     use books::faults::Numbered;
     use house::{EitherFault, house};
     use net::{Draft, Look, Net};
+    use samples::{RELAY, number, seen};
     use std::test::Fail;
     use stream::read;
-
-    // A relay: place 0 with one token, place 1, and place 2 in the support; transition 0 moves a token from 0 to 1, transition 1 from
-    // 1 to 2. The question is reach.
-    const RELAY: [u8; 42] = [
-        0x10, 0, 0, 0, 1, 0, 0x10, 0, 0, 0, 0, 0, 0x10, 0, 0, 0, 0, 1, 0x11, 0x11, 0x12, 0, 0, 0,
-        1, 0x13, 0, 1, 0, 1, 0x12, 1, 1, 0, 1, 0x13, 1, 2, 0, 1, 0x1f, 1,
-    ];
 
     // The relay with an idle transition 2, which has no weights.
     const IDLE: [u8; 43] = [
@@ -37,14 +31,9 @@ mod tests {
         }
     }
 
-    // The number of the refusal of a step, where it is refused.
-    fn number(net: &mut Net<'_>, step: &[u8]) -> Option<u8> {
-        house().take(net, step).err().map(|fault| fault.number())
-    }
-
-    // The value of a look, or the number of its refusal.
-    fn seen(net: &Net<'_>, at: Look) -> Result<u32, u8> {
-        net.look(at).map_err(|fault| fault.told().number)
+    // The number of the refusal of a step by the house book, where it is refused.
+    fn refused(net: &mut Net<'_>, step: &[u8]) -> Option<u8> {
+        number(house().take(net, step))
     }
 
     #[test]
@@ -53,14 +42,29 @@ mod tests {
         let mut draft = Draft::start(&mut sheet);
         assert!(rt; read(&mut draft, &RELAY).is_ok());
         let mut net = draft.finish();
-        assert_eq!(rt; number(&mut net, &[0x29, 3, 0, 0, 0, 0, 0, 0, 0]), Some(16));
-        assert_eq!(rt; number(&mut net, &[0x29, 8, 0, 0, 0, 0, 0, 0, 0]), Some(9));
-        assert_eq!(rt; number(&mut net, &[0x29, 4, 0, 0, 0, 0, 0, 0, 0]), Some(17));
-        assert_eq!(rt; number(&mut net, &[0x28, 0, 0, 0, 0, 0, 0, 0, 0]), Some(15));
-        assert_eq!(rt; number(&mut net, &[0x28, 2, 0, 0, 0, 0, 0, 0, 0]), Some(17));
-        assert_eq!(rt; number(&mut net, &[0x28, 1, 0, 0, 0, 0, 0, 0, 0]), Some(18));
-        assert_eq!(rt; number(&mut net, &[0x28, 1, 0, 0, 0, 0, 0, 0]), Some(2));
-        assert_eq!(rt; number(&mut net, &[0x29, 7, 0, 0, 0, 0, 0, 0, 0]), None);
+        assert_eq!(rt;
+            refused(&mut net, &[0x29, 3, 0, 0, 0, 0, 0, 0, 0]),
+            Some(16)
+        );
+        assert_eq!(rt; refused(&mut net, &[0x29, 8, 0, 0, 0, 0, 0, 0, 0]), Some(9));
+        assert_eq!(rt;
+            refused(&mut net, &[0x29, 4, 0, 0, 0, 0, 0, 0, 0]),
+            Some(17)
+        );
+        assert_eq!(rt;
+            refused(&mut net, &[0x28, 0, 0, 0, 0, 0, 0, 0, 0]),
+            Some(15)
+        );
+        assert_eq!(rt;
+            refused(&mut net, &[0x28, 2, 0, 0, 0, 0, 0, 0, 0]),
+            Some(17)
+        );
+        assert_eq!(rt;
+            refused(&mut net, &[0x28, 1, 0, 0, 0, 0, 0, 0, 0]),
+            Some(18)
+        );
+        assert_eq!(rt; refused(&mut net, &[0x28, 1, 0, 0, 0, 0, 0, 0]), Some(2));
+        assert_eq!(rt; refused(&mut net, &[0x29, 7, 0, 0, 0, 0, 0, 0, 0]), None);
         assert_eq!(rt; seen(&net, Look::Transitions), Ok(2));
         assert_eq!(rt; seen(&net, Look::Mark(0)), Ok(1));
         Ok(())
@@ -72,12 +76,12 @@ mod tests {
         let mut draft = Draft::start(&mut sheet);
         assert!(rt; read(&mut draft, &RELAY).is_ok());
         let mut net = draft.finish();
-        assert_eq!(rt; number(&mut net, &[0x2d, 0, 0, 2]), Some(18));
-        assert_eq!(rt; number(&mut net, &[0x2d, 0, 0, 0]), Some(15));
-        assert_eq!(rt; number(&mut net, &[0x2d, 1, 0, 1]), Some(17));
-        assert_eq!(rt; number(&mut net, &[0x2e, 0, 2, 0, 1]), Some(16));
-        assert_eq!(rt; number(&mut net, &[0x2e, 0, 1, 0, 1]), Some(17));
-        assert_eq!(rt; number(&mut net, &[0x2d, 0, 0, 1]), None);
+        assert_eq!(rt; refused(&mut net, &[0x2d, 0, 0, 2]), Some(18));
+        assert_eq!(rt; refused(&mut net, &[0x2d, 0, 0, 0]), Some(15));
+        assert_eq!(rt; refused(&mut net, &[0x2d, 1, 0, 1]), Some(17));
+        assert_eq!(rt; refused(&mut net, &[0x2e, 0, 2, 0, 1]), Some(16));
+        assert_eq!(rt; refused(&mut net, &[0x2e, 0, 1, 0, 1]), Some(17));
+        assert_eq!(rt; refused(&mut net, &[0x2d, 0, 0, 1]), None);
         assert_eq!(rt; seen(&net, Look::Mark(0)), Ok(0));
         assert_eq!(rt; seen(&net, Look::Mark(1)), Ok(1));
         assert_eq!(rt; seen(&net, Look::Mark(2)), Ok(0));
@@ -91,11 +95,11 @@ mod tests {
         let mut draft = Draft::start(&mut sheet);
         assert!(rt; read(&mut draft, &RELAY).is_ok());
         let mut net = draft.finish();
-        assert_eq!(rt; number(&mut net, &[0x2a, 3]), Some(9));
-        assert_eq!(rt; number(&mut net, &[0x2a, 2]), Some(16));
-        assert_eq!(rt; number(&mut net, &[0x2a, 1]), Some(17));
-        assert_eq!(rt; number(&mut net, &[0x2b, 1]), None);
-        assert_eq!(rt; number(&mut net, &[0x2b, 1]), Some(9));
+        assert_eq!(rt; refused(&mut net, &[0x2a, 3]), Some(9));
+        assert_eq!(rt; refused(&mut net, &[0x2a, 2]), Some(16));
+        assert_eq!(rt; refused(&mut net, &[0x2a, 1]), Some(17));
+        assert_eq!(rt; refused(&mut net, &[0x2b, 1]), None);
+        assert_eq!(rt; refused(&mut net, &[0x2b, 1]), Some(9));
         assert_eq!(rt; seen(&net, Look::Transitions), Ok(1));
         assert_eq!(rt; seen(&net, Look::Stands(1)), Ok(0));
         assert_eq!(rt; seen(&net, Look::Take(0, 0)), Ok(1));
@@ -111,18 +115,18 @@ mod tests {
         assert!(rt; read(&mut draft, &IDLE).is_ok());
         let mut net = draft.finish();
         write_idle(&mut net, 65_536);
-        assert_eq!(rt; number(&mut net, &[0x2d, 0, 0, 1]), Some(21));
-        assert_eq!(rt; number(&mut net, &[0x2b, 1]), Some(21));
-        assert_eq!(rt; number(&mut net, &[0x2c, 1]), Some(21));
+        assert_eq!(rt; refused(&mut net, &[0x2d, 0, 0, 1]), Some(21));
+        assert_eq!(rt; refused(&mut net, &[0x2b, 1]), Some(21));
+        assert_eq!(rt; refused(&mut net, &[0x2c, 1]), Some(21));
         write_idle(&mut net, 65_535);
-        assert_eq!(rt; number(&mut net, &[0x2b, 1]), None);
+        assert_eq!(rt; refused(&mut net, &[0x2b, 1]), None);
         let mut draft = Draft::start(&mut sheet);
         assert!(rt; read(&mut draft, &SWAP).is_ok());
         let mut net = draft.finish();
         write_idle(&mut net, 65_536);
-        assert_eq!(rt; number(&mut net, &[0x2e, 0, 1, 0, 1]), Some(21));
+        assert_eq!(rt; refused(&mut net, &[0x2e, 0, 1, 0, 1]), Some(21));
         write_idle(&mut net, 65_535);
-        assert_eq!(rt; number(&mut net, &[0x2e, 0, 1, 0, 1]), None);
+        assert_eq!(rt; refused(&mut net, &[0x2e, 0, 1, 0, 1]), None);
         Ok(())
     }
 

@@ -3,31 +3,14 @@
 
 #[cfg(test)]
 mod tests {
-    use net::{Draft, Layer, Look, Net, NetFault, Origin, measure};
+    use net::{Draft, Layer, Look, NetFault, Origin, Position, measure};
+    use samples::{RELAY, number, parts, seen};
     use std::test::Fail;
     use stream::{Cause, ReadFault, read};
 
-    const RELAY: [u8; 42] = [
-        0x10, 0, 0, 0, 1, 0, 0x10, 0, 0, 0, 0, 0, 0x10, 0, 0, 0, 0, 1, 0x11, 0x11, 0x12, 0, 0, 0,
-        1, 0x13, 0, 1, 0, 1, 0x12, 1, 1, 0, 1, 0x13, 1, 2, 0, 1, 0x1f, 1,
-    ];
-
-    // The number of a refusal of the net, where there is one.
-    fn number<T: Drop>(r: Result<T, NetFault>) -> Option<u8> {
-        r.err().map(|fault| fault.told().number)
-    }
-
-    // The value of a look, or the number of its refusal.
-    fn seen(net: &Net<'_>, at: Look) -> Result<u32, u8> {
-        net.look(at).map_err(|fault| fault.told().number)
-    }
-
     // Number, byte and count of a refused reading.
     fn refused(r: Result<usize, ReadFault>) -> Option<(u8, usize, usize)> {
-        r.err().map(|fault| {
-            let told = fault.told();
-            (told.number, told.origin.byte, told.origin.count)
-        })
+        r.err().map(|fault| parts(fault.told()))
     }
 
     #[test]
@@ -155,8 +138,7 @@ mod tests {
                 cause: Cause::Net(NetFault::BadFlag),
                 origin: Origin {
                     layer: Layer::Net,
-                    byte: 0,
-                    count: 0,
+                    at: Position { byte: 0, count: 0 },
                 },
             },)
         );
@@ -166,8 +148,7 @@ mod tests {
                 cause: Cause::Short,
                 origin: Origin {
                     layer: Layer::Reader,
-                    byte: 1,
-                    count: 1,
+                    at: Position { byte: 1, count: 1 },
                 },
             },)
         );

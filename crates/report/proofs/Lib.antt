@@ -1,4 +1,3 @@
-pub mod Below
 pub mod Readings
 pub mod Ends
 pub mod Printing

@@ -1,5 +1,6 @@
 -- The lines that the program prints for its input.
-use Rattle.std.specs.Prelude.{ℕ, zero, suc, ◌+◌, cond, List, [], ◌∷◌, ◌++◌, length, drop, Ok, Err, Result, ◌==◌, nat_lt}
+use Rattle.std.specs.Prelude.{ℕ, ◌+◌, cond, List, [], ◌∷◌, ◌++◌, length, drop, Ok, Err, Result, Some, None, Option, ◌==◌, nat_lt}
+use Rattle.std.specs.List.{range_with_len, filter_map, flat_map}
 use Rattle.net.specs.declared.net.Look.{Look}
 use Rattle.net.specs.declared.net.Look.TheVariants as look
 use Rattle.net.specs.declared.net.NetFault.{NetFault}
@@ -25,18 +26,13 @@ use Rattle.report.specs.declared.line.Line.TheVariants.{Long, Net, Taken, Refuse
 abbrev pub most_input : ℕ
 most_input = 32768
 
--- The lines of 0, of 1, and so on below `n`, one after another.
-unfoldable pub below : ℕ → (ℕ → List Line) → List Line
-below zero f = []
-below (suc n) f = below n f ++ f n
-
 -- A standing place has a line: its number and its mark.
-abbrev pub shown_place : ℕ → Result ℕ NetFault → List Line
-shown_place p (Ok m) = Place p m ∷ []
-shown_place p (Err e) = []
+abbrev pub shown_place : ℕ → Result ℕ NetFault → Option Line
+shown_place p (Ok m) = Some (Place p m)
+shown_place p (Err e) = None
 
 abbrev pub place_lines : State → List Line
-place_lines s = below 64 (λ p. shown_place p (looked s (look.Mark p)))
+place_lines s = filter_map (λ p. shown_place p (looked s (look.Mark p))) (range_with_len 0 64)
 
 -- An arc has a line: its transition, its place and its weight.
 abbrev pub side_look : Side → ℕ → ℕ → Look
@@ -47,19 +43,19 @@ abbrev pub side_line : Side → ℕ → ℕ → ℕ → Line
 side_line Takes t p w = Take t p w
 side_line Puts t p w = Put t p w
 
-abbrev pub shown_arc : Side → ℕ → ℕ → Result ℕ NetFault → List Line
-shown_arc k t p (Ok w) = cond (w == 0) [] (side_line k t p w ∷ [])
-shown_arc k t p (Err e) = []
+abbrev pub shown_arc : Side → ℕ → ℕ → Result ℕ NetFault → Option Line
+shown_arc k t p (Ok w) = cond (w == 0) None (Some (side_line k t p w))
+shown_arc k t p (Err e) = None
 
 abbrev pub side_lines : State → Side → ℕ → List Line
-side_lines s k t = below 64 (λ p. shown_arc k t p (looked s (side_look k t p)))
+side_lines s k t = filter_map (λ p. shown_arc k t p (looked s (side_look k t p))) (range_with_len 0 64)
 
 -- For each transition its takes by place, then its puts by place.
 abbrev pub transition_lines : State → ℕ → List Line
 transition_lines s t = side_lines s Takes t ++ side_lines s Puts t
 
 abbrev pub arc_lines : State → List Line
-arc_lines s = below s.transitions (λ t. transition_lines s t)
+arc_lines s = flat_map (transition_lines s) (range_with_len 0 s.transitions)
 
 abbrev pub net_lines : State → List Line
 net_lines s = place_lines s ++ arc_lines s

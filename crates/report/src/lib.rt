@@ -1,7 +1,7 @@
 // From input bytes to the lines that the program prints.
 #![tactic(auto)]
 
-ghost use Rattle.std.specs.Prelude.{◌≡◌, ◌-◌, ◌≤◌, ◌++◌, length, drop, IfOk, vec_len, string_bytes, OnOk};
+ghost use Rattle.std.specs.Prelude.{◌≡◌, ◌+◌, ◌-◌, ◌^◌, ◌<◌, ◌++◌, length, drop, IfOk, vec_len, string_bytes, OnOk};
 ghost use Rattle.net.specs.declared.net.Look.TheVariants.{Mark};
 ghost use Rattle.net.specs.Looks.{looked};
 ghost use Rattle.net.specs.States.{view};
@@ -15,32 +15,28 @@ mod line;
 
 use basics::{BasicFault, Basics};
 pub use line::Line;
-use net::{Draft, Look, Net, SHEET_SIZE, Side};
+use net::{Draft, Look, MOST_PLACES, Net, SHEET_SIZE, Side};
 use session::{Session, SessionFault};
 use std::alloc::{AllocError, Global};
 use stream::read;
 
 // The most bytes of an input.
-const MOST_INPUT: usize = 32_768;
+pub const MOST_INPUT: u16 = 32_768;
 
 // The line of a place, if it stands.
-fn place_line(lines: &mut Vec<Line>, net: &Net<'_>, p: usize) -> Result<(), AllocError>
-    ensures { OnOk result (lines.new.items ≡ lines.old.items ++ shown_place p (looked (view net.now) (Mark p))) }
+fn place_line(net: &Net<'_>, p: usize) -> Option<Line>
+    ensures { result ≡ shown_place p (looked (view net.now) (Mark p)) }
 {
-    if let Ok(mark) = net.look(Look::Mark(p)) {
-        lines.push(Line::Place(p, mark))?;
-    }
-    Ok(())
+    net.look(Look::Mark(p))
+        .ok()
+        .map(|mark| Line::Place(p, mark))
 }
 
-// The lines of the standing places. Each push may fail, so that this is a `for` and no chain.
+// Adds the lines of the standing places.
 fn place_lines(lines: &mut Vec<Line>, net: &Net<'_>) -> Result<(), AllocError>
     ensures { OnOk result (lines.new.items ≡ lines.old.items ++ place_lines (view net.now)) }
 {
-    for p in 0..64 {
-        place_line(lines, net, p)?;
-    }
-    Ok(())
+    lines.extend((0..MOST_PLACES).filter_map(|p| place_line(net, p)))
 }
 
 // The look for an arc on one side of a transition.
@@ -64,49 +60,24 @@ fn side_line(side: Side, t: usize, p: usize, weight: u32) -> Line
 }
 
 // The line of an arc, if there is one.
-fn arc_line(
-    lines: &mut Vec<Line>,
-    net: &Net<'_>,
-    side: Side,
-    t: usize,
-    p: usize,
-) -> Result<(), AllocError>
-    ensures { OnOk result (lines.new.items ≡ lines.old.items ++ shown_arc side t p (looked (view net.now) (side_look side t p))) }
+fn arc_line(net: &Net<'_>, side: Side, t: usize, p: usize) -> Option<Line>
+    ensures { result ≡ shown_arc side t p (looked (view net.now) (side_look side t p)) }
 {
     match net.look(side_look(side, t, p)) {
-        Ok(0) | Err(_) => {}
-        Ok(weight) => lines.push(side_line(side, t, p, weight))?,
+        Ok(0) | Err(_) => None,
+        Ok(weight) => Some(side_line(side, t, p, weight)),
     }
-    Ok(())
 }
 
-// The lines of a transition's arcs of one side.
-fn side_lines(lines: &mut Vec<Line>, net: &Net<'_>, side: Side, t: usize) -> Result<(), AllocError>
-    ensures { OnOk result (lines.new.items ≡ lines.old.items ++ side_lines (view net.now) side t) }
-{
-    for p in 0..64 {
-        arc_line(lines, net, side, t, p)?;
-    }
-    Ok(())
-}
-
-// The lines of a transition: its takes, then its puts.
-fn transition_lines(lines: &mut Vec<Line>, net: &Net<'_>, t: usize) -> Result<(), AllocError>
-    ensures { OnOk result (lines.new.items ≡ lines.old.items ++ transition_lines (view net.now) t) }
-{
-    side_lines(lines, net, Side::Takes, t)?;
-    side_lines(lines, net, Side::Puts, t)?;
-    Ok(())
-}
-
-// The lines of all arcs, by transition.
+// Adds the lines of all arcs: for each transition its takes by place, then its puts by place.
 fn arc_lines(lines: &mut Vec<Line>, net: &Net<'_>) -> Result<(), AllocError>
     ensures { OnOk result (lines.new.items ≡ lines.old.items ++ arc_lines (view net.now)) }
 {
-    for t in 0..net.shape.transitions {
-        transition_lines(lines, net, t)?;
-    }
-    Ok(())
+    lines.extend((0..net.shape.transitions).flat_map(|t| {
+        let takes = (0..MOST_PLACES).filter_map(move |p| arc_line(net, Side::Takes, t, p));
+        let puts = (0..MOST_PLACES).filter_map(move |p| arc_line(net, Side::Puts, t, p));
+        takes.chain(puts)
+    }))
 }
 
 // Adds a line and a line feed.
@@ -129,39 +100,38 @@ pub fn print(heap: Global, lines: &[Line]) -> Result<String, AllocError>
 
 // The lines of the steps that were fed from the given byte of an input on.
 fn step_lines(
-    lines: &mut Vec<Line>,
+    heap: Global,
     used: usize,
     said: Result<usize, SessionFault<BasicFault>>,
-    all: usize,
-) -> Result<(), AllocError>
-    requires place_within { PlaceWithin said (all - used) }
-    requires used_le_all { used ≤ all }
-    ensures { OnOk result (lines.new.items ≡ lines.old.items ++ step_lines used said) }
+) -> Result<Vec<Line>, AllocError>
+    requires { PlaceWithin said (2 ^ 64 - 1 - used) }
+    ensures { IfOk result (λ v. v.items ≡ step_lines used said) }
 {
     match said {
-        Ok(count) => lines.push(Line::Taken(count))?,
+        Ok(count) => Ok(vec![in heap; Line::Taken(count)]?),
         Err(fault) => {
             let told = fault.told();
-            lines.push(Line::Taken(told.origin.count))?;
-            lines.push(Line::Refused(told.number, used + told.origin.byte))?;
+            let at = told.origin.at;
+            Ok(vec![in heap;
+                Line::Taken(at.count),
+                Line::Refused(told.number, used + at.byte),
+            ]?)
         }
     }
-    Ok(())
 }
 
-// The lines for a net that was read from the first bytes of an input: the steps behind it are fed to a session.
+// The lines for a net that was read from the first bytes of an input: the steps behind it, the rest of the input, are fed to a session.
 fn session_lines(
     heap: Global,
     session: &mut Session<'_>,
-    input: &[u8],
     used: usize,
+    rest: &[u8],
 ) -> Result<Vec<Line>, AllocError>
-    requires { used ≤ length input.now }
-    ensures { IfOk result (λ v. v.items ≡ end_lines used (fed house (opened session.old) (drop used input.now))) }
+    requires { used + length rest.now < 2 ^ 64 }
+    ensures { IfOk result (λ v. v.items ≡ end_lines used (fed house (opened session.old) rest.now)) }
 {
-    let said = session.feed(&Basics, &input[used..]);
-    let mut lines = Vec::new(heap);
-    step_lines(&mut lines, used, said, input.len())?;
+    let said = session.feed(&Basics, rest);
+    let mut lines = step_lines(heap, used, said)?;
     place_lines(&mut lines, session.net())?;
     arc_lines(&mut lines, session.net())?;
     Ok(lines)
@@ -181,7 +151,7 @@ fn report_over(heap: Global, sheet: &mut [u32], input: &[u8]) -> Result<Vec<Line
 {
     let mut draft = Draft::start(sheet);
     match read(&mut draft, input) {
-        Ok(used) => session_lines(heap, &mut Session::open(draft), input, used),
+        Ok(used) => session_lines(heap, &mut Session::open(draft), used, &input[used..]),
         Err(fault) => Ok(vec![in heap; Line::from(fault)]?),
     }
 }
@@ -190,7 +160,7 @@ fn report_over(heap: Global, sheet: &mut [u32], input: &[u8]) -> Result<Vec<Line
 pub fn report(heap: Global, input: &[u8]) -> Result<Vec<Line>, AllocError>
     ensures { IfOk result (λ v. v.items ≡ reported input.now) }
 {
-    if input.len() > MOST_INPUT {
+    if input.len() > usize::from(MOST_INPUT) {
         return Ok(vec![in heap; Line::Long]?);
     }
     let mut sheet = new_sheet(heap, SHEET_SIZE)?;

@@ -40,6 +40,6 @@ impl From<ReadFault> for Line {
 
     fn from(fault: ReadFault) -> Line {
         let told = fault.told();
-        Line::Net(told.number, told.origin.byte)
+        Line::Net(told.number, told.origin.at.byte)
     }
 }

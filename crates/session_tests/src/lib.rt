@@ -6,25 +6,15 @@ mod tests {
     use basics::{BasicFault, Basics};
     use books::Book;
     use books::faults::BookFault;
-    use net::{Draft, Layer, Look, Origin};
+    use net::{Draft, Layer, Look, Origin, Position};
+    use samples::{WAYS, parts};
     use session::{Cause, Session, SessionFault};
     use std::test::Fail;
     use stream::read;
 
-    // Places 0 with 2 tokens, 1, and 2 in the support; transition 0 moves one token from 0 to 1, 1 from 1 to 2, 3 from 0 to 2, and 2
-    // moves two from 0 to 1. Both questions are open.
-    const WAYS: [u8; 64] = [
-        0x10, 0, 0, 0, 2, 0, 0x10, 0, 0, 0, 0, 0, 0x10, 0, 0, 0, 0, 1, 0x11, 0x11, 0x11, 0x11,
-        0x12, 0, 0, 0, 1, 0x13, 0, 1, 0, 1, 0x12, 1, 1, 0, 1, 0x13, 1, 2, 0, 1, 0x12, 2, 0, 0, 2,
-        0x13, 2, 1, 0, 2, 0x12, 3, 0, 0, 1, 0x13, 3, 2, 0, 1, 0x1f, 3,
-    ];
-
     // The answer, or number, byte and count of the refusal.
     fn told(r: Result<usize, SessionFault<BasicFault>>) -> Result<usize, (u8, usize, usize)> {
-        r.map_err(|fault| {
-            let told = fault.told();
-            (told.number, told.origin.byte, told.origin.count)
-        })
+        r.map_err(|fault| parts(fault.told()))
     }
 
     // The number of a refused proposal.
@@ -96,8 +86,7 @@ mod tests {
                     cause: Cause::Bytes(_),
                     origin: Origin {
                         layer: Layer::Session,
-                        byte: 5,
-                        count: 1,
+                        at: Position { byte: 5, count: 1 },
                     },
                 },
             ) => {}
@@ -109,8 +98,7 @@ mod tests {
                     cause: Cause::Book(BookFault::Step(_)),
                     origin: Origin {
                         layer: Layer::Book,
-                        byte: 0,
-                        count: 0,
+                        at: Position { byte: 0, count: 0 },
                     },
                 },
             ) => Ok(()),

@@ -48,7 +48,7 @@ fn passes(heap: Global, case: &str) -> anyhow::Result<bool> {
     let input = input_of(heap, hex)?;
     let printed = print(heap, &report(heap, &input)?)?;
     let expected = expected_of(heap, lines)?;
-    Ok(printed.as_str() == expected.as_str())
+    Ok(printed == expected)
 }
 
 // Runs a table, prints the cases that differ and the count.
