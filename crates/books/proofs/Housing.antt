@@ -14,7 +14,7 @@ use Rattle.theory.proofs.Lawful.{steps_are_lawful}
 use Rattle.books.specs.declared.faults.Misfit.{Misfit}
 use Rattle.books.specs.declared.faults.Misfit.TheVariants.{Unknown}
 use Rattle.books.specs.Frames.{Widths, framed, misfit_number, RefusesMisfits}
-use Rattle.books.specs.House.{with_fault, after, house_taken, owns, own_checked}
+use Rattle.books.specs.House.{with_fault, after, house_taken}
 
 after_ok : {E F : Type 0} (f : E → F) (r : Result Unit E) (k : Result State F) (t : State) → after f r k ≡ Ok t → k ≡ Ok t
 after_ok f (Ok u) k t h = h
@@ -64,21 +64,13 @@ module _ {F : Type 0} (net : NetFault → F) (bytes : Misfit → F) (refused : R
       ap (λ (q : Result Unit NetFault). after net q (after bytes (framed width bs) (with_fault refused (steps.step s (parse bs))))) m
       ∙ ap (λ (q : Result Unit Misfit). after bytes q (with_fault refused (steps.step s (parse bs)))) f
 
-  -- Where the questions of a decoded step pass, it is one of the book's own and its table passes.
-  pub own_passed : (s : State) (x : steps.Step) → own_checked bytes refused width s x ≡ Ok tt → (owns width x ≡ true) × Passes (steps.table s x)
-  own_passed s x h = go (owns width x) refl h
-    where
-      asked : Result Unit F
-      asked = with_fault refused (judged (steps.table s x) tt)
-
-      go : (b : Bool) → owns width x ≡ b → ◌≡◌ {A = Result Unit F} (cond b asked (Err (bytes Unknown))) (Ok tt)
-          → (owns width x ≡ true) × Passes (steps.table s x)
-      go true e k = (e, (passed (steps.table s x) tt tt (fault_ok refused (judged (steps.table s x) tt) tt k)).0)
-      go false e k = absurd (ok_not_err k)
-
   module _ (s : State) (bs : List ℕ) (x : steps.Step) (m : measured s.sheet ≡ Ok tt) (f : framed width bs ≡ Ok tt) (e : x ≡ parse bs) where
+    -- What the questions of the step answer.
+    abbrev Asked : Result Unit Refusal → Type 0
+    Asked r = ◌≡◌ {A = Result Unit Refusal} (judged (steps.table s x) tt) r
+
     -- A step that passes leads to its next state: the rewrite refuses only a sheet of wrong size.
-    pub house_done : (q : Result Unit NetFault) (t : State) → own_checked bytes refused width s x ≡ Ok tt
+    pub house_done : (q : Result Unit NetFault) (t : State) → Asked (Ok tt)
         → Answered q t s (judged (WrongSize unless sized s ∷ []) (steps.next s x)) → (q ≡ Ok tt) × Answered (Ok tt) t s (house_taken net bytes refused width parse s bs)
     house_done q t h a = (a.answer ∙ ap said written, record { answer = sym (ap said gives); state = a.state ∙ ap (left s) written ∙ sym (ap (left s) gives) })
       where
@@ -86,23 +78,16 @@ module _ {F : Type 0} (net : NetFault → F) (bytes : Misfit → F) (refused : R
         written = passing (WrongSize unless sized s ∷ []) (steps.next s x) (passed (WrongSize unless sized s ∷ []) tt tt m).0
 
         passes : steps.step s x ≡ Ok (steps.next s x)
-        passes = passing (steps.table s x) (steps.next s x) (own_passed s x h).1
+        passes = passing (steps.table s x) (steps.next s x) (passed (steps.table s x) tt tt h).0
 
         gives : house_taken net bytes refused width parse s bs ≡ Ok (steps.next s x)
         gives = house_whole s bs m f ∙ ap (λ y. with_fault refused (steps.step s y)) (sym e) ∙ ap (with_fault refused) passes
 
     -- A step that does not changes nothing, and its refusal is kept whole.
-    pub house_refused : (y : F) → owns width (parse bs) ≡ true → own_checked bytes refused width s x ≡ Err y → Answered (Err y) s s (house_taken net bytes refused width parse s bs)
-    house_refused y o h = record { answer = sym (ap said gives); state = sym (ap (left s) gives) }
+    pub house_refused : (y : Refusal) → Asked (Err y) → Answered (Err (refused y)) s s (house_taken net bytes refused width parse s bs)
+    house_refused y h = record { answer = sym (ap said gives); state = sym (ap (left s) gives) }
       where
-        alike : (r : Result Unit Refusal) → judged (steps.table s x) tt ≡ r → with_fault refused r ≡ Err y → with_fault refused (steps.step s x) ≡ Err y
-        alike (Ok u) k g = absurd (ok_not_err (sym g))
-        alike (Err z) k g = ap (with_fault refused) (refused_alike (steps.table s x) tt (steps.next s x) z k) ∙ ap (λ (v : F). Err v) (err_same g)
-
-        own : own_checked bytes refused width s x ≡ with_fault refused (judged (steps.table s x) tt)
-        own = ap (λ (b : Bool). cond b (with_fault refused (judged (steps.table s x) tt)) (Err (bytes Unknown))) (ap (owns width) e ∙ o)
-
-        gives : house_taken net bytes refused width parse s bs ≡ Err y
+        gives : house_taken net bytes refused width parse s bs ≡ Err (refused y)
         gives =
             house_whole s bs m f ∙ ap (λ z. with_fault refused (steps.step s z)) (sym e)
-            ∙ alike (judged (steps.table s x) tt) refl (sym own ∙ h)
+            ∙ ap (with_fault refused) (refused_alike (steps.table s x) tt (steps.next s x) y h)

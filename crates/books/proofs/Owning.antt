@@ -1,5 +1,5 @@
 -- What a house book owns: its widths are narrow, and each whole step of it is one of its own.
-use Rattle.std.proofs.Common.{◌≡◌, ℕ, ◌≤◌, Bool, true, false, cond, ◌||◌, eqb, ltb, List, is_some, None, Ok, Err, Result, refl, sym, subst, ap, ◌∙◌, rules, arith}
+use Rattle.std.proofs.Common.{◌≡◌, ℕ, ◌≤◌, Bool, true, false, cond, ◌&&◌, eqb, leb, List, is_some, None, Ok, Err, Result, refl, sym, subst, ap, ◌∙◌, rules, arith}
 use Rattle.std.proofs.lemmas.Bool.{both_ways, eqb-true}
 use Rattle.net.specs.declared.net.NetFault.{NetFault}
 use Rattle.net.specs.Looks.{measured, sheet_checks}
@@ -10,12 +10,13 @@ use Rattle.theory.specs.declared.refusal.Refusal.{Refusal}
 use Rattle.theory.specs.Steps as steps
 use Rattle.books.specs.declared.faults.BookFault.{BookFault}
 use Rattle.books.specs.declared.faults.Misfit.{Misfit}
+use Rattle.books.specs.declared.faults.Misfit.TheVariants.{Unknown}
 use Rattle.books.specs.Faults.{from_net, from_bytes, from_step}
 use Rattle.books.specs.declared.step.Kind.{Kind}
 use Rattle.books.specs.declared.step.Kind.TheVariants as kinds
 use Rattle.books.specs.Frames.{Narrow, frame_table, framed}
 use Rattle.books.proofs.Housing.{refused_alike, house_done, house_refused}
-use Rattle.books.specs.House.{one, kind, kind_width, parsed, kind_or, step_of, width_of_kind, owned_width, owned_step, byte_of, owns, own_checked, book_taken, with_fault, after}
+use Rattle.books.specs.House.{one, kind, kind_width, parsed, kind_or, step_of, width_of_kind, owned_kind, owned_width, owned_step, byte_of, owns, book_taken, with_fault, after}
 
 few : (k : Kind) → kind_width k ≤ 16
 few k = search rules
@@ -58,24 +59,28 @@ module _ (first last : ℕ) (bs : List ℕ) where
   Own = owns (owned_width first last) (step_of bs) ≡ true
 
   pub own : framed (owned_width first last) bs ≡ Ok tt → Own
-  own h = begun (ltb (one bs 0) first || ltb last (one bs 0)) refl ((passed (frame_table (owned_width first last) bs) tt tt h).0.1.0)
+  own h =
+      let o = (passed (frame_table (owned_width first last) bs) tt tt h).0.1.0 in
+      ap (λ b. is_some (owned_width first last b)) (of_kind (owned_kind first last (one bs 0)) refl o) ∙ o
     where
-      kept : byte_of (step_of bs) ≡ one bs 0 → is_some (owned_width first last (one bs 0)) ≡ true → Own
-      kept e o = ap (λ b. is_some (owned_width first last b)) e ∙ o
+      within : (c : Bool) (r : Result Kind Misfit) (k : Kind) → cond c r (Err Unknown) ≡ Ok k → r ≡ Ok k
+      within true r k e = e
+      within false r k e = absurd (ok_not_err e)
 
-      of_kind : (r : Result Kind Misfit) → kind (one bs 0) ≡ r → is_some (width_of_kind r) ≡ true → byte_of (step_of bs) ≡ one bs 0
-      of_kind (Ok k) e o = ap (λ x. byte_of (parsed (kind_or x) bs)) e ∙ byte_kept (one bs 0) bs k e
+      of_kind : (r : Result Kind Misfit) → owned_kind first last (one bs 0) ≡ r → is_some (width_of_kind r) ≡ true → byte_of (step_of bs) ≡ one bs 0
+      of_kind (Ok k) e o =
+          let i = within (leb first (one bs 0) && leb (one bs 0) last) (kind (one bs 0)) k e in
+          ap (λ x. byte_of (parsed (kind_or x) bs)) i ∙ byte_kept (one bs 0) bs k i
       of_kind (Err f) e o = absurd (both_ways false refl o)
-
-      begun : (x : Bool) → (ltb (one bs 0) first || ltb last (one bs 0)) ≡ x → is_some (owned_width first last (one bs 0)) ≡ true → Own
-      begun true e o = absurd (both_ways false refl (sym (ap (λ b. is_some (cond b None (width_of_kind (kind (one bs 0))))) e) ∙ o))
-      begun false e o = kept (of_kind (kind (one bs 0)) refl (sym (ap (λ b. is_some (cond b None (width_of_kind (kind (one bs 0))))) e) ∙ o)) o
 
   -- The step that the bytes are is framed by its width, and is the one in them.
   pub read_step : (x : steps.Step) → Ok x ≡ owned_step first last bs → (framed (owned_width first last) bs ≡ Ok tt) × (x ≡ step_of bs)
   read_step x h =
       let p = passed (frame_table (owned_width first last) bs) (step_of bs) x (sym h) in
       (passing (frame_table (owned_width first last) bs) tt p.0, sym p.1)
+
+  pub read_own : (x : steps.Step) → Ok x ≡ owned_step first last bs → owns (owned_width first last) x ≡ true
+  read_own x h = let p = read_step x h in ap (owns (owned_width first last)) p.1 ∙ own p.0
 
   pub no_step : (e : Misfit) → Err e ≡ owned_step first last bs → framed (owned_width first last) bs ≡ Err e
   no_step e h = refused_alike (frame_table (owned_width first last) bs) (step_of bs) tt e (sym h)
@@ -98,13 +103,13 @@ module _ {n : ℕ} (first last : ℕ) (s : State) (bs : List ℕ) (m : Ok tt ≡
           ∙ ap (λ (q : Result Unit Misfit). after from_bytes q judging) (no_step first last bs e h)
 
   module _ (x : steps.Step) (r : Ok x ≡ owned_step first last bs) where
-    pub step_done : (q : Result Unit NetFault) (t : State) → Ok tt ≡ own_checked (from_bytes {first = n}) from_step (owned_width first last) s x
+    pub step_done : (q : Result Unit NetFault) (t : State) → ◌≡◌ {A = Result Unit Refusal} (Ok tt) (judged (steps.table s x) tt)
         → Answered q t s (judged (sheet_checks s) (steps.next s x)) → Taken (Ok tt) t
     step_done q t h a =
         let p = read_step first last bs x r in
         (house_done (from_net {first = n}) from_bytes from_step (owned_width first last) step_of s bs x (sym m) p.0 p.1 q t (sym h) a).1
 
-    pub step_refused : (y : BookFault Refusal n) → Err y ≡ own_checked from_bytes from_step (owned_width first last) s x → Taken (Err y) s
+    pub step_refused : (y : Refusal) → ◌≡◌ {A = Result Unit Refusal} (Err y) (judged (steps.table s x) tt) → Taken (Err (from_step y)) s
     step_refused y h =
         let p = read_step first last bs x r in
-        house_refused (from_net {first = n}) from_bytes from_step (owned_width first last) step_of s bs x (sym m) p.0 p.1 y (own first last bs p.0) (sym h)
+        house_refused (from_net {first = n}) from_bytes from_step (owned_width first last) step_of s bs x (sym m) p.0 p.1 y (sym h)

@@ -1,5 +1,5 @@
 -- House books: a step is framed by its widths, decoded, and judged by the tables of the steps.
-use Rattle.std.specs.Prelude.{ℕ, ◌+◌, ◌*◌, Bool, cond, ◌||◌, List, take, drop, is_some, Some, None, Ok, Err, Option, Result, ◌==◌, nat_lt, slice_index}
+use Rattle.std.specs.Prelude.{ℕ, ◌+◌, ◌*◌, Bool, cond, ◌&&◌, List, take, drop, is_some, Some, None, Ok, Err, Option, Result, ◌==◌, nat_le, slice_index}
 use Rattle.net.specs.declared.net.NetFault.{NetFault}
 use Rattle.net.specs.Refusals.{judged}
 use Rattle.net.specs.States.{State}
@@ -113,8 +113,11 @@ abbrev pub width_of_kind : Result Kind Misfit → Option ℕ
 width_of_kind (Ok k) = Some (kind_width k)
 width_of_kind (Err e) = None
 
+abbrev pub owned_kind : ℕ → ℕ → ℕ → Result Kind Misfit
+owned_kind first last b = cond (nat_le first b && nat_le b last) (kind b) (Err Unknown)
+
 abbrev pub owned_width : ℕ → ℕ → Widths
-owned_width first last b = cond (nat_lt b first || nat_lt last b) None (width_of_kind (kind b))
+owned_width first last b = width_of_kind (owned_kind first last b)
 
 -- The step that the bytes are, if they are one whole step of that book.
 abbrev pub owned_step : ℕ → ℕ → List ℕ → Result steps.Step Misfit
@@ -164,7 +167,3 @@ byte_of (steps.fuse_places p q a b) = 0x2e
 -- Is the step one of the book's own?
 abbrev pub owns : Widths → steps.Step → Bool
 owns width x = is_some (width (byte_of x))
-
--- The questions of a decoded step: a step of another book is none of this one.
-abbrev pub own_checked : {F : Type 0} → (Misfit → F) → (Refusal → F) → Widths → State → steps.Step → Result Unit F
-own_checked bytes refused width s x = cond (owns width x) (with_fault refused (judged (steps.table s x) tt)) (Err (bytes Unknown))

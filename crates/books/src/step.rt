@@ -1,6 +1,6 @@
 // The steps of the house books: their kinds, which the first byte tells apart, and how they are read from bytes.
 ghost use Rattle.std.specs.Prelude.{◌≡◌, ◌+◌, length};
-ghost use Rattle.books.specs.House.{plain, kind, kind_width, parsed, owned_width, plainly, owned_step};
+ghost use Rattle.books.specs.House.{plain, kind, kind_width, parsed, owned_kind, owned_width, plainly, owned_step};
 
 use crate::faults::Misfit;
 use crate::{byte_at, frame, two_bytes};
@@ -25,7 +25,7 @@ pub enum Step<'a> {
     FusePlaces(u8, u8, u8, u8),
 }
 
-// The kinds of steps.
+// The kinds of steps, which are known from the first byte alone, before there are operands.
 #[derive(Clone, Copy, Debug, PartialEq, Eq)]
 pub enum Kind {
     DropDominated,
@@ -79,8 +79,12 @@ impl Kind {
         ensures { result ≡ kind_width self }
     {
         match self {
-            Kind::DropDraining | Kind::KeepSourceless | Kind::RemovePlentiful => 1,
-            Kind::PostAgglomerate | Kind::PreAgglomerate | Kind::FreeAgglomerate => 1,
+            Kind::DropDraining
+            | Kind::KeepSourceless
+            | Kind::RemovePlentiful
+            | Kind::PostAgglomerate
+            | Kind::PreAgglomerate
+            | Kind::FreeAgglomerate => 1,
             Kind::DropDominated | Kind::DropStarved => 2,
             Kind::DropComposed | Kind::FireAhead => 3,
             Kind::DropMultiple | Kind::RemoveImplied | Kind::FusePlaces => 4,
@@ -121,14 +125,21 @@ pub struct Owned {
 }
 
 impl Owned {
+    // The kind of step that a first byte begins, where the book owns it.
+    fn kind(self, byte: u8) -> Result<Kind, Misfit>
+        ensures { result ≡ owned_kind self.first self.last byte }
+    {
+        if !(self.first..=self.last).contains(&byte) {
+            return Err(Misfit::Unknown);
+        }
+        Kind::try_from(byte)
+    }
+
     // The operand width for a first byte, where the book owns it.
     pub fn width(self, byte: u8) -> Option<u8>
         ensures { result ≡ owned_width self.first self.last byte }
     {
-        if byte < self.first || byte > self.last {
-            return None;
-        }
-        Kind::try_from(byte).ok().map(Kind::width)
+        self.kind(byte).ok().map(Kind::width)
     }
 
     // The step that the bytes are, where they are one whole step of the book.
@@ -137,6 +148,6 @@ impl Owned {
     {
         let byte = byte_at(bytes, 0);
         frame(self.width(byte), bytes)?;
-        Ok(Kind::try_from(byte)?.parse(bytes))
+        Ok(self.kind(byte)?.parse(bytes))
     }
 }
