@@ -16,16 +16,16 @@ mod nodes;
 
 pub use alone::{spares_support, touches_only};
 pub use limits::{in_limits, rest_fits, rows_fit};
-pub use neighbours::{Consumes, Feeds, OnlyConsumer, Source};
+pub use neighbours::{OnlyConsumer, Source, Touches};
 use net::{MOST_PLACES, Net, Question, Side, flag_at};
 pub use nodes::{
     Nodes, Place, Test, Transition, count, every, first, flags, places, some, transitions,
 };
 
-// The number of a place in the part of the sheet that begins at `from`; 0 past the last place and past the end of the sheet. No part
-// begins later than the puts of transition 255 would.
+// The number of a place in the part of the sheet that begins at `from`; 0 past the last place and past the end of the sheet. The
+// bound only keeps the sum small.
 fn number_of(net: &Net<'_>, from: usize, p: u8) -> u32
-    requires { from ≤ 32768 }
+    requires { from ≤ 65536 }
     ensures { result ≡ part (view net.now).sheet from p }
 {
     let p = usize::from(p);
@@ -85,24 +85,18 @@ pub fn is_there(net: &Net<'_>, t: u8) -> bool
     usize::from(t) < net.shape.transitions
 }
 
-// Is the question of reach open? Is that of standstill?
+// Is the question of reach open?
 pub fn asks_reach(net: &Net<'_>) -> bool
     ensures { result ≡ asks_reach (view net.now).question }
 {
     net.shape.question != Question::Standstill
 }
 
-pub fn asks_standstill(net: &Net<'_>) -> bool
-    ensures { result ≡ asks_standstill (view net.now).question }
-{
-    net.shape.question != Question::Reach
-}
-
 // Is reach the only open question?
 pub fn is_reach_only(net: &Net<'_>) -> bool
     ensures { result ≡ not (asks_standstill (view net.now).question) }
 {
-    !asks_standstill(net)
+    net.shape.question == Question::Reach
 }
 
 // Is the place in the set? Place 8 × i + j is, when bit j of byte i is 1.

@@ -1,40 +1,26 @@
 // Tests of who takes from a place and who puts into it.
 ghost use Rattle.std.specs.Prelude.{◌≡◌, ℕ, Bool, nat_eq, nat_lt};
 ghost use Rattle.net.specs.States.{take};
-ghost use Rattle.theory.specs.Tests.{◌⇒◌, feeder?, consumer?};
+ghost use Rattle.checks.specs.Alone.{weight};
+ghost use Rattle.theory.specs.Tests.{◌⇒◌, consumer?};
 
-use crate::{Place, Test, Transition, put_of, take_of};
-use net::Net;
+use crate::{Place, Test, Transition, take_of, weight_of};
+use net::{Net, Side};
 
-// Does the transition put into p?
+// Does the transition touch p on this side? On that of the puts it feeds p, on that of the takes it consumes from it.
 #[derive(Clone, Copy, Debug, PartialEq, Eq)]
-pub struct Feeds {
+pub struct Touches {
+    pub side: Side,
     pub p: u8,
 }
 
-impl Test for Feeds {
+impl Test for Touches {
     type Of = Transition;
 
-    ghost holds = { λ x s t. feeder? s x.p t };
+    ghost holds = { λ x s t. nat_lt 0 (weight x.side s t x.p) };
 
     fn test(&self, net: &Net<'_>, t: u8) -> bool {
-        put_of(net, t, self.p) > 0
-    }
-}
-
-// Does the transition take from p?
-#[derive(Clone, Copy, Debug, PartialEq, Eq)]
-pub struct Consumes {
-    pub p: u8,
-}
-
-impl Test for Consumes {
-    type Of = Transition;
-
-    ghost holds = { λ x s t. consumer? s x.p t };
-
-    fn test(&self, net: &Net<'_>, t: u8) -> bool {
-        take_of(net, t, self.p) > 0
+        weight_of(net, self.side, t, self.p) > 0
     }
 }
 

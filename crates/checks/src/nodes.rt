@@ -5,15 +5,16 @@ ghost use Rattle.net.specs.declared.net.Net.{Net};
 ghost use Rattle.net.specs.States.{State, view};
 ghost use Rattle.theory.specs.Tests.{every, some, lowest, those};
 
-use net::Net;
+use net::{MOST_PLACES, MOST_TRANSITIONS, Net};
 use std::array;
 use std::ops::Range;
 
-// The numbers of the places. The end is a number of 8 bits, as places are told, which `MOST_PLACES` is not.
+// The numbers of the places.
 pub fn places() -> Range<u8>
     ensures { (result.start ≡ 0) × (result.end ≡ 64) }
 {
-    0..64
+    // The cast loses nothing: there are 64 places. The end is a number of 8 bits, as places are told.
+    0..MOST_PLACES as u8
 }
 
 // The numbers of the transitions.
@@ -61,7 +62,8 @@ impl Nodes for Transition {
     }
 }
 
-// A test of one node.
+// A test of one node. It is a trait and not a closure, since a contract names what a test means: of a closure it could only say that
+// it was called.
 pub trait Test {
     type Of: Nodes;
 
