@@ -7,7 +7,7 @@ ghost use Rattle.net.specs.Looks.{Leaves};
 ghost use Rattle.net.specs.States.{view, stands};
 ghost use Rattle.basics.specs.Basics.{basic_width, basic_taken};
 ghost use Rattle.books.specs.Faults.{book_number, from_net, from_bytes, from_step};
-ghost use Rattle.books.specs.House.{plain, owns, own_checked, step_of};
+ghost use Rattle.books.specs.House.{plain, owns, step_of};
 ghost use Rattle.theory.specs.Rewrites.{dropping, keeping_only, leaving};
 ghost use Rattle.theory.specs.Steps.{refusal_number, table, next, drop_dominated, drop_multiple, drop_composed, drop_draining, drop_starved, keep_sourceless, remove_plentiful, remove_implied};
 ghost use Rattle.books.proofs.Housing.{house_keeps, house_refuses};
@@ -17,7 +17,7 @@ mod conditions;
 mod kept;
 
 use books::Book;
-use books::faults::{BookFault, Misfit};
+use books::faults::BookFault;
 use books::step::{Owned, Step};
 use checks::{asks_reach, asks_standstill, is_there, stands_at, supports_at};
 use conditions::{
@@ -198,28 +198,30 @@ fn leave_place(net: &mut Net<'_>, p: u8) -> Result<(), NetFault>
 }
 
 // The first bytes that this book owns.
+const FIRST: u8 = 0x20;
+
 const OWNED: Owned = Owned {
-    first: 0x20,
+    first: FIRST,
     last: 0x27,
 };
 
-// The questions of a decoded step of this book; one of another book is unknown here.
-// A match here and in the rewrite: each step has operands of its own, and a closure for each would be made in a match.
-fn check(net: &Net<'_>, step: Step<'_>) -> Result<(), BasicFault>
-    ensures { result ≡ own_checked from_bytes from_step basic_width (view net.now) (plain step.entry) }
+// The questions of a step of this book. A match here and in the rewrite: each step has operands of its own, and a closure for each would
+// be made in a match.
+fn check(net: &Net<'_>, step: Step<'_>) -> Result<(), Refusal>
+    requires { owns basic_width (plain step) ≡ true }
+    ensures { result ≡ judged (table (view net.now) (plain step.entry)) tt }
 {
     match step {
-        Step::DropDominated(t, u) => check_dominated(net, t, u)?,
-        Step::DropMultiple(t, u, k) => check_multiple(net, t, u, k)?,
-        Step::DropComposed(t, u, v) => check_composed(net, t, u, v)?,
-        Step::DropDraining(t) => check_draining(net, t)?,
-        Step::DropStarved(t, p) => check_starved(net, t, p)?,
-        Step::KeepSourceless(t) => check_sourceless(net, t)?,
-        Step::RemovePlentiful(p) => check_plentiful(net, p)?,
-        Step::RemoveImplied(p, q, k) => check_implied(net, p, q, k)?,
-        _ => return Err(BookFault::Bytes(Misfit::Unknown)),
+        Step::DropDominated(t, u) => check_dominated(net, t, u),
+        Step::DropMultiple(t, u, k) => check_multiple(net, t, u, k),
+        Step::DropComposed(t, u, v) => check_composed(net, t, u, v),
+        Step::DropDraining(t) => check_draining(net, t),
+        Step::DropStarved(t, p) => check_starved(net, t, p),
+        Step::KeepSourceless(t) => check_sourceless(net, t),
+        Step::RemovePlentiful(p) => check_plentiful(net, p),
+        Step::RemoveImplied(p, q, k) => check_implied(net, p, q, k),
+        _ => unreachable!(),
     }
-    Ok(())
 }
 
 // Takes a step of this book whose questions have passed.
@@ -241,12 +243,13 @@ fn rewrite(net: &mut Net<'_>, step: Step<'_>) -> Result<(), NetFault>
 }
 
 // The first house book.
-// It implements `Book` itself: one impl for all four would need a public trait whose calls ask something of their caller.
+// It implements `Book` itself: one impl for all four would need a public trait whose calls ask something of their caller, which no public
+// call here does.
 #[derive(Clone, Copy, Debug, PartialEq, Eq)]
 pub struct Basics;
 
 // Why this book, which owns the bytes from 20, refuses a step.
-pub type BasicFault = BookFault<Refusal, 0x20>;
+pub type BasicFault = BookFault<Refusal, FIRST>;
 
 impl Book for Basics {
     type Fault = BasicFault;

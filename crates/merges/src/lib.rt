@@ -6,7 +6,7 @@ ghost use Rattle.net.specs.Refusals.{judged, Passes};
 ghost use Rattle.net.specs.Looks.{Leaves};
 ghost use Rattle.net.specs.States.{view};
 ghost use Rattle.books.specs.Faults.{book_number, from_net, from_bytes, from_step};
-ghost use Rattle.books.specs.House.{plain, owns, own_checked, step_of};
+ghost use Rattle.books.specs.House.{plain, owns, step_of};
 ghost use Rattle.merges.specs.Merges.{merge_width, merge_taken, first_lines, last_lines};
 ghost use Rattle.products.specs.Products.{product_row};
 ghost use Rattle.theory.specs.Rewrites.{merging};
@@ -17,7 +17,7 @@ ghost use Rattle.books.proofs.Owning.{narrow};
 mod conditions;
 
 use books::Book;
-use books::faults::{BookFault, Misfit};
+use books::faults::BookFault;
 use books::step::{Owned, Step};
 use checks::{is_reach_only, mark_of, stands_at, supports_at};
 use conditions::{
@@ -117,23 +117,25 @@ fn merge_products(net: &mut Net<'_>, kind: Kind, p: u8) -> Result<(), NetFault>
 }
 
 // The first bytes that this book owns.
+const FIRST: u8 = 0x2a;
+
 const OWNED: Owned = Owned {
-    first: 0x2a,
+    first: FIRST,
     last: 0x2c,
 };
 
-// The questions of a decoded step of this book; one of another book is unknown here.
-// A match here and in the rewrite: each step has operands of its own, and a closure for each would be made in a match.
-fn check(net: &Net<'_>, step: Step<'_>) -> Result<(), MergeFault>
-    ensures { result ≡ own_checked from_bytes from_step merge_width (view net.now) (plain step.entry) }
+// The questions of a step of this book. A match here and in the rewrite: each step has operands of its own, and a closure for each would
+// be made in a match.
+fn check(net: &Net<'_>, step: Step<'_>) -> Result<(), Refusal>
+    requires { owns merge_width (plain step) ≡ true }
+    ensures { result ≡ judged (table (view net.now) (plain step.entry)) tt }
 {
     match step {
-        Step::PostAgglomerate(p) => check_post(net, p)?,
-        Step::PreAgglomerate(p) => check_pre(net, p)?,
-        Step::FreeAgglomerate(p) => check_free(net, p)?,
-        _ => return Err(BookFault::Bytes(Misfit::Unknown)),
+        Step::PostAgglomerate(p) => check_post(net, p),
+        Step::PreAgglomerate(p) => check_pre(net, p),
+        Step::FreeAgglomerate(p) => check_free(net, p),
+        _ => unreachable!(),
     }
-    Ok(())
 }
 
 // Takes a step of this book whose questions have passed.
@@ -150,12 +152,13 @@ fn rewrite(net: &mut Net<'_>, step: Step<'_>) -> Result<(), NetFault>
 }
 
 // The third house book.
-// It implements `Book` itself: one impl for all four would need a public trait whose calls ask something of their caller.
+// It implements `Book` itself: one impl for all four would need a public trait whose calls ask something of their caller, which no public
+// call here does.
 #[derive(Clone, Copy, Debug, PartialEq, Eq)]
 pub struct Merges;
 
 // Why this book, which owns the bytes from 2A, refuses a step.
-pub type MergeFault = BookFault<Refusal, 0x2A>;
+pub type MergeFault = BookFault<Refusal, FIRST>;
 
 impl Book for Merges {
     type Fault = MergeFault;

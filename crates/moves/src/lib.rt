@@ -6,7 +6,7 @@ ghost use Rattle.net.specs.Refusals.{judged, Passes};
 ghost use Rattle.net.specs.Looks.{Leaves, measured};
 ghost use Rattle.net.specs.States.{view, stands};
 ghost use Rattle.books.specs.Faults.{book_number, from_net, from_bytes, from_step};
-ghost use Rattle.books.specs.House.{plain, owns, own_checked, step_of};
+ghost use Rattle.books.specs.House.{plain, owns, step_of};
 ghost use Rattle.moves.specs.Columns.{SumsFit, Added};
 ghost use Rattle.moves.specs.Moves.{move_width, move_taken};
 ghost use Rattle.theory.specs.Rewrites.{firing_ahead, fusing};
@@ -20,7 +20,7 @@ mod conditions;
 
 use ahead::Ahead;
 use books::Book;
-use books::faults::{BookFault, Misfit};
+use books::faults::BookFault;
 use books::step::{Owned, Step};
 use checks::{is_there, stands_at, supports_at};
 use conditions::{carry_both_ways, fusion_fits};
@@ -120,22 +120,24 @@ fn fuse_net(net: &mut Net<'_>, p: u8, q: u8) -> Result<(), NetFault>
 }
 
 // The first bytes that this book owns.
+const FIRST: u8 = 0x2d;
+
 const OWNED: Owned = Owned {
-    first: 0x2d,
+    first: FIRST,
     last: 0x2e,
 };
 
-// The questions of a decoded step of this book; one of another book is unknown here.
-// A match here and in the rewrite: each step has operands of its own, and a closure for each would be made in a match.
-fn check(net: &Net<'_>, step: Step<'_>) -> Result<(), MoveFault>
-    ensures { result ≡ own_checked from_bytes from_step move_width (view net.now) (plain step.entry) }
+// The questions of a step of this book. A match here and in the rewrite: each step has operands of its own, and a closure for each would
+// be made in a match.
+fn check(net: &Net<'_>, step: Step<'_>) -> Result<(), Refusal>
+    requires { owns move_width (plain step) ≡ true }
+    ensures { result ≡ judged (table (view net.now) (plain step.entry)) tt }
 {
     match step {
-        Step::FireAhead(t, k) => check_ahead(net, Ahead { t, k })?,
-        Step::FusePlaces(p, q, a, b) => check_fusion(net, p, q, a, b)?,
-        _ => return Err(BookFault::Bytes(Misfit::Unknown)),
+        Step::FireAhead(t, k) => check_ahead(net, Ahead { t, k }),
+        Step::FusePlaces(p, q, a, b) => check_fusion(net, p, q, a, b),
+        _ => unreachable!(),
     }
-    Ok(())
 }
 
 // Takes a step of this book whose questions have passed.
@@ -152,12 +154,13 @@ fn rewrite(net: &mut Net<'_>, step: Step<'_>) -> Result<(), NetFault>
 }
 
 // The fourth house book.
-// It implements `Book` itself: one impl for all four would need a public trait whose calls ask something of their caller.
+// It implements `Book` itself: one impl for all four would need a public trait whose calls ask something of their caller, which no public
+// call here does.
 #[derive(Clone, Copy, Debug, PartialEq, Eq)]
 pub struct Moves;
 
 // Why this book, which owns the bytes from 2D, refuses a step.
-pub type MoveFault = BookFault<Refusal, 0x2D>;
+pub type MoveFault = BookFault<Refusal, FIRST>;
 
 impl Book for Moves {
     type Fault = MoveFault;

@@ -16,7 +16,7 @@ mod rows;
 
 use checks::{Test, Transition, flags, is_member};
 pub use marks::write_marks;
-use net::{MOST_PLACES, Net, NetFault, SHEET_SIZE, Shape, Side};
+use net::{MOST_PLACES, MOST_TRANSITIONS, Net, NetFault, SHEET_SIZE, Shape, Side};
 pub use rows::append_rows;
 use std::array;
 use std::ops::Range;

@@ -5,7 +5,7 @@ ghost use Rattle.net.specs.States.{view};
 ghost use Rattle.rewrites.specs.Rows.{Appended, append_checks, Extended};
 
 use crate::row_at;
-use net::{MOST_TRANSITIONS, Net, NetFault};
+use net::{MOST_TRANSITIONS, Net, NetFault, ROW_SIZE};
 
 // Writes a row of a sheet.
 fn write_row(sheet: &mut [u32], t: usize, row: &[u32; ROW_SIZE])

@@ -6,7 +6,7 @@ ghost use Rattle.net.specs.Refusals.{judged, Passes};
 ghost use Rattle.net.specs.Looks.{Leaves};
 ghost use Rattle.net.specs.States.{view};
 ghost use Rattle.books.specs.Faults.{book_number, from_net, from_bytes, from_step};
-ghost use Rattle.books.specs.House.{plain, owns, own_checked, step_of};
+ghost use Rattle.books.specs.House.{plain, owns, step_of};
 ghost use Rattle.sets.specs.Sets.{set_width, set_taken};
 ghost use Rattle.theory.specs.Rewrites.{limiting};
 ghost use Rattle.theory.specs.Steps.{refusal_number, table, next, drop_siphon, limit_to};
@@ -17,7 +17,7 @@ ghost use Rattle.books.proofs.Owning.{narrow};
 mod conditions;
 
 use books::Book;
-use books::faults::{BookFault, Misfit};
+use books::faults::BookFault;
 use books::step::{Owned, Step};
 use checks::is_reach_only;
 use conditions::{
@@ -74,22 +74,24 @@ fn limit_net(net: &mut Net<'_>, set: &[u8; 8]) -> Result<(), NetFault>
 }
 
 // The first bytes that this book owns.
+const FIRST: u8 = 0x28;
+
 const OWNED: Owned = Owned {
-    first: 0x28,
+    first: FIRST,
     last: 0x29,
 };
 
-// The questions of a decoded step of this book; one of another book is unknown here.
-// A match here and in the rewrite: each step has operands of its own, and a closure for each would be made in a match.
-fn check(net: &Net<'_>, step: Step<'_>) -> Result<(), SetFault>
-    ensures { result ≡ own_checked from_bytes from_step set_width (view net.now) (plain step.entry) }
+// The questions of a step of this book. A match here and in the rewrite: each step has operands of its own, and a closure for each would
+// be made in a match.
+fn check(net: &Net<'_>, step: Step<'_>) -> Result<(), Refusal>
+    requires { owns set_width (plain step) ≡ true }
+    ensures { result ≡ judged (table (view net.now) (plain step.entry)) tt }
 {
     match step {
-        Step::DropSiphon(set) => check_siphon(net, set)?,
-        Step::LimitTo(set) => check_limit(net, set)?,
-        _ => return Err(BookFault::Bytes(Misfit::Unknown)),
+        Step::DropSiphon(set) => check_siphon(net, set),
+        Step::LimitTo(set) => check_limit(net, set),
+        _ => unreachable!(),
     }
-    Ok(())
 }
 
 // Takes a step of this book whose questions have passed.
@@ -106,12 +108,13 @@ fn rewrite(net: &mut Net<'_>, step: Step<'_>) -> Result<(), NetFault>
 }
 
 // The second house book.
-// It implements `Book` itself: one impl for all four would need a public trait whose calls ask something of their caller.
+// It implements `Book` itself: one impl for all four would need a public trait whose calls ask something of their caller, which no public
+// call here does.
 #[derive(Clone, Copy, Debug, PartialEq, Eq)]
 pub struct Sets;
 
 // Why this book, which owns the bytes from 28, refuses a step.
-pub type SetFault = BookFault<Refusal, 0x28>;
+pub type SetFault = BookFault<Refusal, FIRST>;
 
 impl Book for Sets {
     type Fault = SetFault;

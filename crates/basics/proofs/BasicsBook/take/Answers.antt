@@ -2,7 +2,7 @@ use Rattle.std.proofs.Common.{◌∙◌}
 use Rattle.std.proofs.lemmas.Result.{err_from_is_err_and}
 use Rattle.net.specs.States.{view}
 use Rattle.books.specs.House.{plain}
-use Rattle.books.proofs.Owning.{bytes_refused, step_done, step_refused}
+use Rattle.books.proofs.Owning.{bytes_refused, read_own, step_done, step_refused}
 use Rattle.basics.proofs.BasicsBook.take.Goals as goal
 
 pub returns-in_err-step : goal.returns-in_err-step
@@ -11,11 +11,17 @@ returns-in_err-step c =
     let q = bytes_refused 0x20 0x27 (view c.args.net.now) c.args.step.now c.in_ok-check_size.ensures _ c.in_err-step.ensures in
     record { answer = p.1 ∙ rw p.2 q.answer; state = q.state }
 
+pub check-requires : goal.check-requires
+check-requires c = read_own 0x20 0x27 c.args.step.now (plain c.in_ok-step.step) c.in_ok-step.ensures
+
 pub returns-in_err-check : goal.returns-in_err-check
 returns-in_err-check c =
     let p = err_from_is_err_and c.from_residual-in_err-check.result c.from_residual-in_err-check.ensures.1 in
     let q = step_refused 0x20 0x27 (view c.args.net.now) c.args.step.now c.in_ok-check_size.ensures (plain c.in_ok-step.step) c.in_ok-step.ensures _ c.in_err-check.ensures in
     record { answer = p.1 ∙ rw p.2 q.answer; state = q.state }
+
+pub rewrite-requires-clause-own : goal.rewrite-requires-clause-own
+rewrite-requires-clause-own c = read_own 0x20 0x27 c.args.step.now (plain c.in_ok-step.step) c.in_ok-step.ensures
 
 pub returns : goal.returns
 returns c =

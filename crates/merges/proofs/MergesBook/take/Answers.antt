@@ -1,11 +1,8 @@
-use Rattle.std.proofs.Common.{sym, ◌∙◌}
+use Rattle.std.proofs.Common.{◌∙◌}
 use Rattle.std.proofs.lemmas.Result.{err_from_is_err_and}
 use Rattle.net.specs.States.{view}
-use Rattle.books.specs.Faults.{from_net, from_bytes, from_step}
-use Rattle.books.specs.House.{plain, step_of}
-use Rattle.books.proofs.Housing.{own_passed}
-use Rattle.books.proofs.Owning.{bytes_refused, step_done, step_refused}
-use Rattle.merges.specs.Merges.{merge_width}
+use Rattle.books.specs.House.{plain}
+use Rattle.books.proofs.Owning.{bytes_refused, read_own, step_done, step_refused}
 use Rattle.merges.proofs.MergesBook.take.Goals as goal
 
 pub returns-in_err-step : goal.returns-in_err-step
@@ -14,17 +11,19 @@ returns-in_err-step c =
     let q = bytes_refused 0x2a 0x2c (view c.args.net.now) c.args.step.now c.in_ok-check_size.ensures _ c.in_err-step.ensures in
     record { answer = p.1 ∙ rw p.2 q.answer; state = q.state }
 
+pub check-requires : goal.check-requires
+check-requires c = read_own 0x2a 0x2c c.args.step.now (plain c.in_ok-step.step) c.in_ok-step.ensures
+
 pub returns-in_err-check : goal.returns-in_err-check
 returns-in_err-check c =
     let p = err_from_is_err_and c.from_residual-in_err-check.result c.from_residual-in_err-check.ensures.1 in
     let q = step_refused 0x2a 0x2c (view c.args.net.now) c.args.step.now c.in_ok-check_size.ensures (plain c.in_ok-step.step) c.in_ok-step.ensures _ c.in_err-check.ensures in
     record { answer = p.1 ∙ rw p.2 q.answer; state = q.state }
 
+pub rewrite-requires-clause-own : goal.rewrite-requires-clause-own
+rewrite-requires-clause-own c = read_own 0x2a 0x2c c.args.step.now (plain c.in_ok-step.step) c.in_ok-step.ensures
+
 pub returns : goal.returns
 returns c =
     step_done 0x2a 0x2c (view c.args.net.now) c.args.step.now c.in_ok-check_size.ensures (plain c.in_ok-step.step) c.in_ok-step.ensures
     c.rewrite.result (view c.rewrite.new.net) c.in_ok-check.ensures c.rewrite.ensures
-
-pub rewrite-requires-clause-passes : goal.rewrite-requires-clause-passes
-rewrite-requires-clause-passes c =
-    (own_passed (from_net {first = 0x2a}) from_bytes from_step merge_width step_of (view c.args.net.now) (plain c.in_ok-step.step) (sym c.in_ok-check.ensures)).1
