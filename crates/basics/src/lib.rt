@@ -19,7 +19,7 @@ mod kept;
 use books::Book;
 use books::faults::BookFault;
 use books::step::{Owned, Step};
-use checks::{asks_reach, asks_standstill, is_there, stands_at, supports_at};
+use checks::{asks_reach, is_reach_only, is_there, stands_at, supports_at};
 use conditions::{
     covers, has_always_enough, is_composed, is_dominated, is_draining, is_implied, is_multiple,
     is_sourceless, is_starved, is_unfed, never_loses,
@@ -84,7 +84,7 @@ fn check_composed(net: &Net<'_>, t: u8, u: u8, v: u8) -> Result<(), Refusal>
 fn check_draining(net: &Net<'_>, t: u8) -> Result<(), Refusal>
     ensures { result ≡ judged (table (view net.now) (drop_draining t)) tt }
 {
-    if asks_standstill(net) {
+    if !is_reach_only(net) {
         return Err(Refusal::NotServed);
     }
     if !is_there(net, t) {

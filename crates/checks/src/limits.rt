@@ -8,7 +8,8 @@ ghost use Rattle.theory.specs.Tests.{◌⇒◌, every_place, every_transition, f
 use crate::{places, put_of, take_of, transitions};
 use net::{MOST_WEIGHT, Net};
 
-// The marks of a sheet are within their limit, as numbers of 32 bits: nothing is asked of them.
+// The marks of a sheet are within their limit, as numbers of 32 bits: nothing is asked of them. It is a call, since that a number has
+// 32 bits is known of a slice that is passed, and not of the sheet inside a net: a lemma of the net's sheet lacks that premise.
 fn marks_fit(sheet: &[u32])
     ensures { every_place (λ p. nat_le (mark_at sheet.now p) most_mark) ≡ true }
 {}
