@@ -5,7 +5,7 @@ ghost use Rattle.theory.specs.Tests.{ahead?, suffices?, mark_ahead, ahead_fits?,
 
 use crate::conditions::{MOST_MARK, is_only};
 use checks::{Source, first, mark_of, places, put_of, rows_fit, take_of};
-use net::Net;
+use net::{MOST_PLACES, Net};
 use std::array;
 
 // k firings of transition t.

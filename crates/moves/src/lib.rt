@@ -17,13 +17,14 @@ ghost use Rattle.books.proofs.Owning.{narrow};
 
 mod ahead;
 mod conditions;
+mod fusion;
 
 use ahead::Ahead;
 use books::Book;
 use books::faults::BookFault;
 use books::step::{Owned, Step};
 use checks::{is_there, stands_at, supports_at};
-use conditions::{carry_both_ways, fusion_fits};
+use fusion::Fusion;
 use net::{Net, NetFault, SHEET_SIZE};
 use rewrites::{remove_place, write_marks};
 use theory::Refusal;
@@ -51,25 +52,25 @@ fn check_ahead(net: &Net<'_>, ahead: Ahead) -> Result<(), Refusal>
 }
 
 // The questions of the step that fuses two places.
-fn check_fusion(net: &Net<'_>, p: u8, q: u8, a: u8, b: u8) -> Result<(), Refusal>
-    ensures { result ≡ judged (table (view net.now) (fuse_places p q a b)) tt }
+fn check_fusion(net: &Net<'_>, fusion: Fusion) -> Result<(), Refusal>
+    ensures { result ≡ judged (table (view net.now) (fuse_places fusion.p fusion.q fusion.a fusion.b)) tt }
 {
-    if !is_there(net, a) || !is_there(net, b) {
+    if !is_there(net, fusion.a) || !is_there(net, fusion.b) {
         return Err(Refusal::NoTransition);
     }
-    if !stands_at(net, p) || !stands_at(net, q) {
+    if !stands_at(net, fusion.p) || !stands_at(net, fusion.q) {
         return Err(Refusal::NoPlace);
     }
-    if p == q {
+    if fusion.p == fusion.q {
         return Err(Refusal::NotDistinct);
     }
-    if supports_at(net, p) || supports_at(net, q) {
+    if supports_at(net, fusion.p) || supports_at(net, fusion.q) {
         return Err(Refusal::Support);
     }
-    if !carry_both_ways(net, p, q, a, b) {
+    if !fusion.carries_both_ways(net) {
         return Err(Refusal::Arcs);
     }
-    if !fusion_fits(net, p, q) {
+    if !fusion.fits(net) {
         return Err(Refusal::PastLimit);
     }
     Ok(())
@@ -109,14 +110,14 @@ fn add_place(sheet: &mut [u32], n: usize, p: usize, q: usize) -> Result<(), NetF
 }
 
 // Fuses place q with p, where both stand.
-fn fuse_net(net: &mut Net<'_>, p: u8, q: u8) -> Result<(), NetFault>
-    requires places { (stands (view net.old) p ≡ true) × ((stands (view net.old) q ≡ true) × ((p == q) ≡ false)) }
-    requires sums { fusion_fits? (view net.old) p q ≡ true }
-    ensures { Leaves result (view net.new) (view net.old) (fusing p q (view net.old)) }
+fn fuse_net(net: &mut Net<'_>, fusion: Fusion) -> Result<(), NetFault>
+    requires places { (stands (view net.old) fusion.p ≡ true) × ((stands (view net.old) fusion.q ≡ true) × ((fusion.p == fusion.q) ≡ false)) }
+    requires sums { fusion_fits? (view net.old) fusion.p fusion.q ≡ true }
+    ensures { Leaves result (view net.new) (view net.old) (fusing fusion.p fusion.q (view net.old)) }
 {
     let n = net.shape.transitions;
-    add_place(net.sheet, n, usize::from(p), usize::from(q))?;
-    remove_place(net, usize::from(q))
+    add_place(net.sheet, n, usize::from(fusion.p), usize::from(fusion.q))?;
+    remove_place(net, usize::from(fusion.q))
 }
 
 // The first bytes that this book owns.
@@ -135,7 +136,7 @@ fn check(net: &Net<'_>, step: Step<'_>) -> Result<(), Refusal>
 {
     match step {
         Step::FireAhead(t, k) => check_ahead(net, Ahead { t, k }),
-        Step::FusePlaces(p, q, a, b) => check_fusion(net, p, q, a, b),
+        Step::FusePlaces(p, q, a, b) => check_fusion(net, Fusion { p, q, a, b }),
         _ => unreachable!(),
     }
 }
@@ -148,7 +149,7 @@ fn rewrite(net: &mut Net<'_>, step: Step<'_>) -> Result<(), NetFault>
 {
     match step {
         Step::FireAhead(t, k) => fire_times(net, Ahead { t, k }),
-        Step::FusePlaces(p, q, _, _) => fuse_net(net, p, q),
+        Step::FusePlaces(p, q, a, b) => fuse_net(net, Fusion { p, q, a, b }),
         _ => unreachable!(),
     }
 }

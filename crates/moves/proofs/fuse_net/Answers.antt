@@ -11,28 +11,28 @@ pub add_place-requires-clause-places : goal.add_place-requires-clause-places
 add_place-requires-clause-places c = (
   c.args.net.now.shape.few,
   (
-    omega (arith, c.from.ensures, flag_below c.args.net.now.shape.standing c.args.p c.requires.places.0),
+    omega (arith, c.from.ensures, flag_below c.args.net.now.shape.standing c.args.fusion.p c.requires.places.0),
     (
-      omega (arith, c.from-2.ensures, flag_below c.args.net.now.shape.standing c.args.q c.requires.places.1.0),
-      λ e. eqb-false c.args.p c.args.q c.requires.places.1.1 (sym c.from.ensures ∙ e ∙ c.from-2.ensures),
+      omega (arith, c.from-2.ensures, flag_below c.args.net.now.shape.standing c.args.fusion.q c.requires.places.1.0),
+      λ e. eqb-false c.args.fusion.p c.args.fusion.q c.requires.places.1.1 (sym c.from.ensures ∙ e ∙ c.from-2.ensures),
     ),
   ),
 )
 
 pub add_place-requires-clause-sums : goal.add_place-requires-clause-sums
 add_place-requires-clause-sums c =
-    let a : c.args.p < 64 = omega (arith, flag_below c.args.net.now.shape.standing c.args.p c.requires.places.0) in
-    let b : c.args.q < 64 = omega (arith, flag_below c.args.net.now.shape.standing c.args.q c.requires.places.1.0) in
-    rw (c.from.ensures, c.from-2.ensures) (sums_fit (view c.args.net.now) c.args.p c.args.q a b c.requires.sums)
+    let a : c.args.fusion.p < 64 = omega (arith, flag_below c.args.net.now.shape.standing c.args.fusion.p c.requires.places.0) in
+    let b : c.args.fusion.q < 64 = omega (arith, flag_below c.args.net.now.shape.standing c.args.fusion.q c.requires.places.1.0) in
+    rw (c.from.ensures, c.from-2.ensures) (sums_fit (view c.args.net.now) c.args.fusion.p c.args.fusion.q a b c.requires.sums)
 
 pub returns : goal.returns
 returns c =
-    let a : c.args.p < 64 = omega (arith, flag_below c.args.net.now.shape.standing c.args.p c.requires.places.0) in
-    let b : c.args.q < 64 = omega (arith, flag_below c.args.net.now.shape.standing c.args.q c.requires.places.1.0) in
-    let x : Added (view c.args.net.now).sheet c.add_place.new.sheet (1 + 2 * c.args.net.now.shape.transitions) c.args.p c.args.q =
+    let a : c.args.fusion.p < 64 = omega (arith, flag_below c.args.net.now.shape.standing c.args.fusion.p c.requires.places.0) in
+    let b : c.args.fusion.q < 64 = omega (arith, flag_below c.args.net.now.shape.standing c.args.fusion.q c.requires.places.1.0) in
+    let x : Added (view c.args.net.now).sheet c.add_place.new.sheet (1 + 2 * c.args.net.now.shape.transitions) c.args.fusion.p c.args.fusion.q =
     rw (sym c.from.ensures, sym c.from-2.ensures) c.in_ok-add_place.ensures.added in
     let size = asked_size (view c.args.net.now) (sym c.add_place.ensures.answer ∙ c.in_ok-add_place.was) in
-    size_asked (view c.args.net.now) (fusing c.args.p c.args.q (view c.args.net.now)) (view c.remove_place.new.net) c.remove_place.result size
-    (fused_net (view c.args.net.now) c.add_place.new.sheet c.args.p c.args.q a b (eqb-false c.args.p c.args.q c.requires.places.1.1)
+    size_asked (view c.args.net.now) (fusing c.args.fusion.p c.args.fusion.q (view c.args.net.now)) (view c.remove_place.new.net) c.remove_place.result size
+    (fused_net (view c.args.net.now) c.add_place.new.sheet c.args.fusion.p c.args.fusion.q a b (eqb-false c.args.fusion.p c.args.fusion.q c.requires.places.1.1)
     x c.remove_place.result (view c.remove_place.new.net) (omega (arith, eqb-true (length c.args.net.now.sheet.now) 12352 size))
     c.requires.places.1.0 (rw (sym c.from-3.ensures) c.remove_place.ensures))

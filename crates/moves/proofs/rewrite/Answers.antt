@@ -14,5 +14,5 @@ fire_times-requires c =
 
 pub fuse_net-requires-clause-sums : goal.fuse_net-requires-clause-sums
 fuse_net-requires-clause-sums c =
-    fusion_passed (view c.args.net.now) c.in-FusePlaces.p c.in-FusePlaces.q c.in-FusePlaces.field-2 c.in-FusePlaces.field-3 c.args.net.now.shape.few
+    fusion_passed (view c.args.net.now) c.in-FusePlaces.p c.in-FusePlaces.q c.in-FusePlaces.a c.in-FusePlaces.b c.args.net.now.shape.few
     (subst (λ x. Passes (table (view c.args.net.now) (plain x))) c.in-FusePlaces.is c.requires.passes)
