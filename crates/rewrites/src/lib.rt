@@ -73,7 +73,11 @@ fn wipe_after(sheet: &mut [u32; SHEET_SIZE], n: usize)
 }
 
 // Keeps the rows of the transitions that stay, closed up, and tells how many they are; what follows becomes 0.
-fn keep_rows(sheet: &mut [u32], shape: &Shape, keep: &[bool; MOST_TRANSITIONS]) -> Result<usize, NetFault>
+fn keep_rows(
+    sheet: &mut [u32],
+    shape: &Shape,
+    keep: &[bool; MOST_TRANSITIONS],
+) -> Result<usize, NetFault>
     ensures answer { result ≡ given sheet.old (length (kept_in (λ t. slice_index_or keep.now t false) sheet.old shape.now.transitions)) }
     ensures few { IfOk result (λ n. n ≤ 96) }
     ensures sheet { sheet.new ≡ written sheet.old (sheet_of (mark_at sheet.old) (kept_in (λ t. slice_index_or keep.now t false) sheet.old shape.now.transitions)) }

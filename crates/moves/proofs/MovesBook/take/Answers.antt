@@ -1,6 +1,8 @@
-use Rattle.std.proofs.Common.{◌∙◌}
+use Rattle.std.proofs.Common.{sym, ◌∙◌}
 use Rattle.std.proofs.lemmas.Result.{err_from_is_err_and}
 use Rattle.net.specs.States.{view}
+use Rattle.net.proofs.Tables.{passed}
+use Rattle.theory.specs.Steps.{table}
 use Rattle.books.specs.House.{plain}
 use Rattle.books.proofs.Owning.{bytes_refused, read_own, step_done, step_refused}
 use Rattle.moves.proofs.MovesBook.take.Goals as goal
@@ -22,6 +24,9 @@ returns-in_err-check c =
 
 pub rewrite-requires-clause-own : goal.rewrite-requires-clause-own
 rewrite-requires-clause-own c = read_own 0x2d 0x2e c.args.step.now (plain c.in_ok-step.step) c.in_ok-step.ensures
+
+pub rewrite-requires-clause-passes : goal.rewrite-requires-clause-passes
+rewrite-requires-clause-passes c = (passed (table (view c.args.net.now) (plain c.in_ok-step.step)) tt tt (sym c.in_ok-check.ensures)).0
 
 pub returns : goal.returns
 returns c =
