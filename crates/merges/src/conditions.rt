@@ -5,8 +5,8 @@ ghost use Rattle.products.specs.Products.{product_row};
 ghost use Rattle.theory.specs.Tests.{◌⇒◌, every_place, every_transition, some_place, first, feeder?, consumer?, two_sided?, post_consumers?, first_weight, one_consumer?, all_equal?, post_weights?, free_feeders?, pre_feeders?, free_consumers?, products_fit?, rest_fits?};
 
 use checks::{
-    Consumes, Feeds, OnlyConsumer, Source, every, first, places, put_of, rest_fits, some,
-    spares_support, take_of, touches_only, transitions,
+    OnlyConsumer, Source, Touches, every, first, places, put_of, rest_fits, some, spares_support,
+    take_of, touches_only, transitions,
 };
 use net::{Net, Side};
 use products::{Kind, products_fit};
@@ -23,7 +23,15 @@ fn are_one_sided(net: &Net<'_>, p: u8) -> bool
 pub(crate) fn is_two_sided(net: &Net<'_>, p: u8) -> bool
     ensures { result ≡ two_sided? (view net.now) p }
 {
-    some(net, &Feeds { p }) && some(net, &Consumes { p }) && are_one_sided(net, p)
+    let feeds = Touches {
+        side: Side::Puts,
+        p,
+    };
+    let consumes = Touches {
+        side: Side::Takes,
+        p,
+    };
+    some(net, &feeds) && some(net, &consumes) && are_one_sided(net, p)
 }
 
 // If f is a consumer of p: does it take from p alone, and put into no support place? This sentence on consumers and that on feeders
@@ -47,7 +55,11 @@ pub(crate) fn are_post_consumers(net: &Net<'_>, p: u8) -> bool
 fn first_consumer(net: &Net<'_>, p: u8) -> u8
     ensures { result ≡ first (view net.now).transitions (consumer? (view net.now) p) }
 {
-    first(net, &Consumes { p }).unwrap_or(transitions(net).end)
+    let consumes = Touches {
+        side: Side::Takes,
+        p,
+    };
+    first(net, &consumes).unwrap_or(transitions(net).end)
 }
 
 // What the first consumer takes from p.

@@ -18,13 +18,12 @@ mod weights;
 
 pub use apart::Apart;
 use arrayvec::ArrayVec;
-use checks::{Consumes, Feeds, count, put_of, take_of, transitions};
+use checks::{Touches, count, put_of, take_of, transitions};
 pub use limits::products_fit;
-use net::{MOST_PLACES, MOST_TRANSITIONS, Net, NetFault, Side};
+use net::{MOST_PLACES, MOST_TRANSITIONS, Net, NetFault, ROW_SIZE, Side};
 pub use pairs::{Kind, Pair};
 use rewrites::{append_rows, keep_where};
 use std::array;
-use weights::weight;
 
 // The most products of an agglomeration.
 pub const MOST_PRODUCTS: usize = 32;
@@ -32,42 +31,37 @@ pub const MOST_PRODUCTS: usize = 32;
 // The numbers of their rows.
 type Rows = ArrayVec<[u32; ROW_SIZE], MOST_PRODUCTS>;
 
-// A number of the row of a product that is within the limits: its takes come first, then its puts.
-fn number_at(net: &Net<'_>, pair: &Pair, j: usize) -> u32
-    requires { (j < 128) × Fits (pair_row pair.now (view net.now)) }
-    ensures { result ≡ number (pair_row pair.now (view net.now)) j }
-{
-    // The casts lose nothing: j is less than 128, and a product that is within the limits has weights of 16 bits.
-    if j < MOST_PLACES {
-        weight(net, pair, Side::Takes, j as u8) as u32
-    } else {
-        weight(net, pair, Side::Puts, (j - MOST_PLACES) as u8) as u32
+impl Pair {
+    // A number of the row of the product, if that is within the limits: its takes come first, then its puts.
+    fn number_at(self, net: &Net<'_>, j: usize) -> u32
+        requires { (j < 128) × Fits (pair_row self (view net.now)) }
+        ensures { result ≡ number (pair_row self (view net.now)) j }
+    {
+        // The casts lose nothing: j is less than 128, and a product that is within the limits has weights of 16 bits.
+        if j < MOST_PLACES {
+            self.weight(net, Side::Takes, j as u8) as u32
+        } else {
+            self.weight(net, Side::Puts, (j - MOST_PLACES) as u8) as u32
+        }
+    }
+
+    // The row of the product, if that is within the limits.
+    fn row(self, net: &Net<'_>) -> [u32; ROW_SIZE]
+        requires { Fits (pair_row self (view net.now)) }
+        ensures { result ≡ numbers (pair_row self (view net.now)) }
+    {
+        array::from_fn(|j| self.number_at(net, j))
     }
 }
 
-// The row of a product that is within the limits.
-fn row(net: &Net<'_>, pair: &Pair) -> [u32; ROW_SIZE]
-    requires { Fits (pair_row pair.now (view net.now)) }
-    ensures { result ≡ numbers (pair_row pair.now (view net.now)) }
-{
-    array::from_fn(|j| number_at(net, pair, j))
-}
-
-// The product of feeder h and consumer f of p.
-fn product(net: &Net<'_>, kind: Kind, p: u8, h: u8, f: u8) -> [u32; ROW_SIZE]
-    requires { Fits (product_row kind (view net.now) p h f) }
-    ensures { result ≡ numbers (product_row kind (view net.now) p h f) }
-{
-    row(net, &Pair { kind, p, h, f })
-}
-
-// Appends the products of feeder h and each consumer of p.
+// Appends the products of feeder h and each consumer of p. Each is pushed, since a push with room cannot fail: `extend` may refuse for
+// want of room.
 fn push_products(net: &Net<'_>, kind: Kind, p: u8, h: u8, rows: &mut Rows)
     requires { (array_vec_len rows.old + length (consumers (view net.now) p) ≤ 32) × ((f : ℕ) → f < (view net.now).transitions → consumer? (view net.now) p f ≡ true → Fits (product_row kind (view net.now) p h f)) }
     ensures { rows.new.items ≡ rows.old.items ++ map (λ f. numbers (product_row kind (view net.now) p h f)) (consumers (view net.now) p) }
 {
     for f in transitions(net).filter(|f| take_of(net, *f, p) > 0) {
-        rows.push(product(net, kind, p, h, f));
+        rows.push(Pair { kind, p, h, f }.row(net));
     }
 }
 
@@ -90,7 +84,15 @@ pub fn pair_count(net: &Net<'_>, p: u8) -> usize
     ensures count { result ≡ length (feeders (view net.now) p) * length (consumers (view net.now) p) }
     ensures few { result ≤ 9216 }
 {
-    count(net, &Feeds { p }) * count(net, &Consumes { p })
+    let feeds = Touches {
+        side: Side::Puts,
+        p,
+    };
+    let consumes = Touches {
+        side: Side::Takes,
+        p,
+    };
+    count(net, &feeds) * count(net, &consumes)
 }
 
 // How many transitions leave p alone.
@@ -108,7 +110,8 @@ pub fn row_count(net: &Net<'_>, p: u8) -> usize
     rest_count(net, p) + pair_count(net, p)
 }
 
-// May the feeders and consumers of p be replaced by their products?
+// May the feeders and consumers of p be replaced by their products? The third house book asks these before, with refusals of its own;
+// they are asked again here, since no public call relies on its caller.
 fn check_merge(net: &Net<'_>, kind: Kind, p: u8) -> Result<(), NetFault>
     ensures { result ≡ judged (merge_table kind p (view net.now)) tt }
 {
@@ -122,7 +125,8 @@ fn check_merge(net: &Net<'_>, kind: Kind, p: u8) -> Result<(), NetFault>
     Ok(())
 }
 
-// The flags of the places, false at p. This is not `remove_place`: no row has a number at p any more, and p need not stand.
+// The flags of the places, false at p. This is not `remove_place`: no row has a number at p any more, and p need not stand. The flags
+// are copied: to write one through `get_mut` inside the net was tried, and the proof's borrow rules have none for it.
 #[tactic(auto, using(std::proofs::lemmas::List::set_past))]
 fn flags_without(standing: &[bool; MOST_PLACES], p: u8) -> [bool; MOST_PLACES]
     ensures { result ≡ slice_set standing.now p false }

@@ -5,26 +5,27 @@ ghost use Rattle.theory.specs.Tests.{every_transition, products_fit?};
 ghost use Rattle.products.specs.Products.{product_row, pair_row, row_in_limits?, consumer_fits?, feeder_fits?};
 
 use crate::pairs::{Kind, Pair};
-use crate::weights::weight;
 use checks::{places, put_of, take_of, transitions};
 use net::{MOST_WEIGHT, Net, Side};
 
-// Are the weights of the product within the limit?
-#[tactic(auto, unfolding(theory::specs::Tests::every))]
-fn pair_fits(net: &Net<'_>, pair: &Pair) -> bool
-    ensures { result ≡ row_in_limits? (pair_row pair.now (view net.now)) }
-{
-    places().all(|q| {
-        weight(net, pair, Side::Takes, q) <= u64::from(MOST_WEIGHT)
-            && weight(net, pair, Side::Puts, q) <= u64::from(MOST_WEIGHT)
-    })
-}
+impl Pair {
+    // Are the weights of the product within the limit?
+    #[tactic(auto, unfolding(theory::specs::Tests::every))]
+    fn fits(self, net: &Net<'_>) -> bool
+        ensures { result ≡ row_in_limits? (pair_row self (view net.now)) }
+    {
+        places().all(|q| {
+            self.weight(net, Side::Takes, q) <= u64::from(MOST_WEIGHT)
+                && self.weight(net, Side::Puts, q) <= u64::from(MOST_WEIGHT)
+        })
+    }
 
-// Is the product of feeder h and f within the limit, if f is a consumer of p?
-fn consumer_fits(net: &Net<'_>, pair: &Pair) -> bool
-    ensures { result ≡ consumer_fits? pair.now.kind (view net.now) pair.now.p pair.now.h pair.now.f }
-{
-    take_of(net, pair.f, pair.p) == 0 || pair_fits(net, pair)
+    // Is the product within the limit, if f is a consumer of p?
+    fn consumer_fits(self, net: &Net<'_>) -> bool
+        ensures { result ≡ consumer_fits? self.kind (view net.now) self.p self.h self.f }
+    {
+        take_of(net, self.f, self.p) == 0 || self.fits(net)
+    }
 }
 
 // Are the products of h within the limit, if that is a feeder of p?
@@ -32,7 +33,7 @@ fn consumer_fits(net: &Net<'_>, pair: &Pair) -> bool
 fn all_fit(net: &Net<'_>, kind: Kind, p: u8, h: u8) -> bool
     ensures { result ≡ every_transition (view net.now) (consumer_fits? kind (view net.now) p h) }
 {
-    transitions(net).all(|f| consumer_fits(net, &Pair { kind, p, h, f }))
+    transitions(net).all(|f| Pair { kind, p, h, f }.consumer_fits(net))
 }
 
 // The same, if h is a feeder of p.

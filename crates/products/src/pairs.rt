@@ -7,8 +7,8 @@ pub enum Kind {
     Pre,
 }
 
-// Feeder h and consumer f of place p. Where neither is known yet, the kind and the place are passed as a step tells them: a struct
-// of the two would be taken apart again in each clause.
+// Feeder h and consumer f of place p. Where neither is known yet, the kind and the place are passed apart, since the public calls take
+// them apart, as a step tells them.
 #[derive(Clone, Copy, Debug, PartialEq, Eq)]
 pub struct Pair {
     pub kind: Kind,

@@ -8,8 +8,8 @@ use Rattle.products.specs.Products.{product_row, numbers}
 use Rattle.products.proofs.Crossing.{turned}
 use Rattle.products.proofs.push_products.Goals as goal
 
-pub product-requires : goal.product-requires
-product-requires c =
+pub row-requires : goal.row-requires
+row-requires c =
     let x = turned (consumer? (view c.args.net.now) c.args.p) c.args.net.now.shape.transitions (length c.loop-f.yielded) c.in-Some.f
     (YieldsList-turn (YieldsList-at c.into_iter-f-iterator.ensures.into_iter_gives
     (YieldsList-from_filter _ (consumer? (view c.args.net.now) c.args.p)
