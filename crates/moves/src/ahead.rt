@@ -16,8 +16,9 @@ pub(crate) struct Ahead {
 }
 
 impl Ahead {
-    // Does t take from one place only, and is it the only consumer there, hidden from the support? Here and below `is_some_and` and
-    // `is_none_or` were tried: of the call of a closure that borrows the net a proof learns no more than that it was made.
+    // Does t take from one place only, and is it the only consumer there, hidden from the support?
+    // Here and below `is_some_and` and `is_none_or` were tried: of a closure that holds the net they tell a proof nothing about its
+    // answer, which `all` and `any` tell.
     pub(crate) fn is_allowed(self, net: &Net<'_>) -> bool
         ensures { result ≡ ahead? (view net.now) self.t }
     {

@@ -84,8 +84,8 @@ fn fire_times(net: &mut Net<'_>, ahead: Ahead) -> Result<(), NetFault>
     write_marks(net, &ahead.marks(net))
 }
 
-// Adds the numbers of q to those of p in the marks and the first n rows of a sheet of the right size. The parts are numbered, since
-// a proof knows nothing of what is written through `chunks_exact_mut`.
+// Adds the numbers of q to those of p in the marks and the first n rows of a sheet of the right size. The parts are numbered:
+// `as_chunks_mut::<64>` and `chunks_exact_mut` were tried, and their contracts do not say what the sheet ends as.
 fn add_parts(sheet: &mut [u32; SHEET_SIZE], n: usize, p: usize, q: usize)
     requires places { (n ≤ 96) × ((p < 64) × ((q < 64) × (p ≢ q))) }
     requires sums { SumsFit sheet.old n p q }
