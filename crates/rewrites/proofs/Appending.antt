@@ -1,40 +1,44 @@
--- Rows that are written one by one behind those of a sheet, of lists alone.
-use Rattle.std.proofs.Common.{◌≡◌, ℕ, ◌+◌, ◌-◌, ◌*◌, ◌<◌, ◌≤◌, ◌⊎◌, List, [], length, get_or, sym, ap, ◌∙◌, inl, inr, arith}
-use Rattle.std.proofs.lemmas.Bool.{cases_lt}
-use Rattle.std.proofs.lemmas.List.{get_or_default}
-use Rattle.std.proofs.lemmas.List.FromFn.{length-range_with_len, get_or-range_with_len}
-use Rattle.std.proofs.lemmas.Slice.Zip.{length-zip, get_or-zip}
-use Rattle.std.specs.List.{range_with_len, zip}
+-- Rows that are written at once behind those of a sheet, of lists alone.
+use Rattle.std.proofs.Common.{rules, ◌≡◌, ℕ, zero, suc, ◌+◌, ◌*◌, ◌<◌, ◌≤◌, List, [], ◌∷◌, length, take, get_or, ap, ◌∙◌, arith, length-append}
+use Rattle.std.proofs.lemmas.List.{places}
+use Rattle.std.proofs.lemmas.List.Concat.{flat_map-cons, get_or-flat_map}
+use Rattle.std.specs.List.{flat_map}
 use Rattle.rewrites.specs.Rows.{Appended}
+use borrow.Rule.Slice.PartMut.{put_mid}
 
--- The numbers from `n` on beside the rows, where there is room for all.
-module _ (n : ℕ) (bs : List (List ℕ)) (room : n + length bs ≤ 96) where
-  pub zip_long : length (zip (range_with_len n (96 - n)) bs) ≡ length bs
-  zip_long = length-zip (range_with_len n (96 - n)) bs ∙ omega (arith, length-range_with_len n (96 - n))
+-- The numbers of the rows one after the other, 128 for each row.
+abbrev pub numbers : List (List ℕ) → List ℕ
+numbers bs = flat_map (λ b. b) bs
 
-  pub zip_at : (k t : ℕ) (b : List ℕ) → (k < length (zip (range_with_len n (96 - n)) bs)) × ((t, b) ≡ get_or (zip (range_with_len n (96 - n)) bs) k (t, b))
-      → (t ≡ n + k) × (k < length bs) × (b ≡ get_or bs k [])
-  zip_at k t b x =
-      let l : k < length bs = omega (arith, x.0, zip_long) in
-      let e = x.1 ∙ get_or-zip (range_with_len n (96 - n)) bs k (t, b) (omega (arith, l, length-range_with_len n (96 - n))) l in (
-        ap (λ (p : ℕ × List ℕ). p.0) e ∙ get_or-range_with_len n (96 - n) k t (omega (arith, l)),
-        l,
-        ap (λ (p : ℕ × List ℕ). p.1) e ∙ get_or_default bs k b [] l,
-      )
+abbrev pub AllLong : List (List ℕ) → Type 0
+AllLong bs = (k : ℕ) → k < length bs → length (get_or bs k []) ≡ 128
 
--- One more row is written.
-pub appended_more : (xs ys zs : List ℕ) (bs : List (List ℕ)) (b : List ℕ) (n k t : ℕ) → t ≡ n + k → b ≡ get_or bs k [] → Appended xs ys bs n k
-    → ((j : ℕ) → j < 128 → get_or zs (64 + 128 * t + j) 0 ≡ get_or b j 0) → ((i : ℕ) → i < 64 + 128 * t → get_or zs i 0 ≡ get_or ys i 0)
-    → ((i : ℕ) → 192 + 128 * t ≤ i → get_or zs i 0 ≡ get_or ys i 0) → Appended xs zs bs n (k + 1)
-appended_more xs ys zs bs b n k t e same p row before after =
+length_numbers : (bs : List (List ℕ)) → AllLong bs → (u : ℕ) → u ≤ length bs → length (numbers (take u bs)) ≡ 128 * u
+length_numbers bs long zero h = search rules
+length_numbers [] long (suc u) h = absurd (omega (arith, h))
+length_numbers (b ∷ bs) long (suc u) h =
+    omega (
+      arith,
+      ap length (flat_map-cons (λ (x : List ℕ). x) b (take u bs)),
+      length-append b (numbers (take u bs)),
+      long 0 (omega arith),
+      length_numbers bs (λ k l. long (suc k) (omega (arith, l))) u (omega (arith, h)),
+    )
+
+number_in : (bs : List (List ℕ)) → AllLong bs → (u j : ℕ) → u < length bs → j < 128 → get_or (numbers bs) (128 * u + j) 0 ≡ get_or (get_or bs u []) j 0
+number_in bs long u j h l =
+    ap (λ i. get_or (numbers bs) i 0) (omega (arith, length_numbers bs long u (omega (arith, h))))
+    ∙ get_or-flat_map (λ (x : List ℕ). x) bs u j [] 0 h (omega (arith, long u h, l))
+
+-- They are written over those of the sheet from row `n` on.
+pub appended_at : (xs ys : List ℕ) (bs : List (List ℕ)) (n a k : ℕ) → AllLong bs → length xs ≡ 12352 → n + length bs ≤ 96 → a ≡ 64 + 128 * n
+    → k ≡ 128 * length bs → ys ≡ numbers bs → length ys ≡ k → Appended xs (put_mid a k xs ys) bs n (length bs)
+appended_at xs ys bs n a k long whole room start size copied same =
     record {
-      before = λ i h. before i (omega (arith, e)) ∙ p.before i h;
-      rows = λ u j h l. at u j h l (cases_lt u k);
-      after = λ i h. after i (omega (arith, e)) ∙ p.after i (omega arith);
+      before = λ i h. search (rules, places);
+      rows = λ u j h l. written u j h l ∙ ap (λ zs. get_or zs (128 * u + j) 0) copied ∙ number_in bs long u j h l;
+      after = λ i h. search (rules, places);
     }
   where
-    at : (u j : ℕ) → u < k + 1 → j < 128 → (u < k) ⊎ (k ≤ u) → get_or zs (64 + 128 * (n + u) + j) 0 ≡ get_or (get_or bs u []) j 0
-    at u j h l (inl m) = before (64 + 128 * (n + u) + j) (omega (arith, e)) ∙ p.rows u j m l
-    at u j h l (inr g) =
-        let last : u ≡ k = omega arith in
-        ap (λ i. get_or zs i 0) (omega (arith, e)) ∙ row j l ∙ ap (λ r. get_or r j 0) same ∙ ap (λ v. get_or (get_or bs v []) j 0) (sym last)
+    written : (u j : ℕ) → u < length bs → j < 128 → get_or (put_mid a k xs ys) (64 + 128 * (n + u) + j) 0 ≡ get_or ys (128 * u + j) 0
+    written u j h l = search (rules, places)

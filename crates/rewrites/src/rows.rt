@@ -7,24 +7,14 @@ ghost use Rattle.rewrites.specs.Rows.{Appended, append_checks, Extended};
 use crate::row_at;
 use net::{MOST_TRANSITIONS, Net, NetFault, ROW_SIZE};
 
-// Writes a row of a sheet.
-fn write_row(sheet: &mut [u32], t: usize, row: &[u32; ROW_SIZE])
-    requires { (length sheet.old ≡ 12352) × (t < 96) }
-    ensures row { (j : ℕ) → j < 128 → slice_index sheet.new (64 + 128 * t + j) ≡ slice_index row.now j }
-    ensures before { (i : ℕ) → i < 64 + 128 * t → slice_index sheet.new i ≡ slice_index sheet.old i }
-    ensures after { (i : ℕ) → 192 + 128 * t ≤ i → slice_index sheet.new i ≡ slice_index sheet.old i }
-{
-    sheet[row_at(t)].copy_from_slice(row);
-}
-
 // Writes rows behind the first n rows of a sheet.
 fn write_rows(sheet: &mut [u32], n: usize, rows: &[[u32; ROW_SIZE]])
     requires { (length sheet.old ≡ 12352) × (n + length rows.now ≤ 96) }
     ensures { Appended sheet.old sheet.new rows.now n (length rows.now) }
 {
-    for (t, row) in (n..MOST_TRANSITIONS).zip(rows) {
-        write_row(sheet, t, row);
-    }
+    let numbers = rows.as_flattened();
+    let from = row_at(n).start;
+    sheet[from..from + numbers.len()].copy_from_slice(numbers);
 }
 
 // Appends rows to those of the net, each with its takes and then its puts; all else stays as it is.
