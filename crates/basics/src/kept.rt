@@ -1,4 +1,5 @@
-// Which transitions stay: tests that are handed to a rewrite, which has the net for writing, so that they are values.
+// Which transitions stay. These are tests like the others, so that one rewrite serves all: its contract names what a test means,
+// where of a closure it could only say what its calls answered.
 ghost use Rattle.std.specs.Prelude.{◌≡◌, ℕ, Bool, not, nat_eq};
 
 use checks::{Test, Transition};

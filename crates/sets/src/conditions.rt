@@ -18,7 +18,8 @@ fn touches(net: &Net<'_>, side: Side, set: &[u8; 8], t: u8) -> bool
     places().any(|p| is_member(set, p) && weight_of(net, side, t, p) > 0)
 }
 
-// Does t take from outside the set? This stays apart: the set is used out of the step's own bytes, and its complement would be a copy.
+// Does t take from outside the set? This stays apart: a closure for inside and outside would have to stand in the contract of one
+// function for both, which would be longer than this one.
 #[tactic(auto, unfolding(theory::specs::Tests::some))]
 fn takes_outside(net: &Net<'_>, set: &[u8; 8], t: u8) -> bool
     ensures { result ≡ takes_from? (view net.now) (outside (member set.now)) t }
@@ -86,7 +87,8 @@ pub(crate) fn is_sufficient(net: &Net<'_>, set: &[u8; 8]) -> bool
     transitions(net).all(|t| !takes_outside(net, set, t) || falls(net, set, t))
 }
 
-// Does the transition take nothing from the set? This test and the next are values, since a rewrite is handed them.
+// Does the transition take nothing from the set? This and the next are tests like the others, so that one rewrite serves all: its
+// contract names what a test means, where of a closure it could only say what its calls answered.
 #[derive(Clone, Copy, Debug, PartialEq, Eq)]
 pub(crate) struct Spares<'a> {
     pub set: &'a [u8; 8],
