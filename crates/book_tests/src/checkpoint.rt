@@ -12,25 +12,22 @@ use books::{Book, byte_at, frame, two_bytes};
 use checks::{mark_of, stands_at};
 use net::Net;
 
-// Why a checkpoint is refused: its place does not stand, or has too few tokens.
+// Why a checkpoint is refused, with the number that is told: its place does not stand, or has too few tokens.
 #[derive(Clone, Copy, Debug, PartialEq, Eq)]
 pub enum CheckpointRefusal {
-    Gone,
-    Low,
+    Gone = 100,
+    Low = 101,
 }
 
 impl Numbered for CheckpointRefusal {
     ghost number_of = { checkpoint_number };
 
     fn number(&self) -> u8 {
-        match self {
-            CheckpointRefusal::Gone => 100,
-            CheckpointRefusal::Low => 101,
-        }
+        *self as u8
     }
 }
 
-// The operand width for a first byte of this book.
+// The operand width for a first byte of this book. It owns one byte, so that an enum of its kinds of steps would have one case.
 fn checkpoint_width(first: u8) -> Option<u8>
     ensures { result ≡ checkpoint_width first }
 {

@@ -61,7 +61,7 @@ impl<P: Book, Q: Book> Book for Joined<P, Q> {
         self.first.width(first).or_else(|| self.second.width(first))
     }
 
-    // `map_err` to a fault that also names the other book's is not covered by the borrow checker yet.
+    // `map_err` was tried: to a fault that also names the other book's it is not covered by the borrow checker yet.
     fn take(&self, net: &mut Net<'_>, step: &[u8]) -> Result<(), Self::Fault> {
         if step
             .first()

@@ -59,7 +59,8 @@ pub fn two_bytes(bytes: &[u8], i: u8) -> u16
     ])
 }
 
-// The length of the step at the front of the bytes, if the book says this width of their first byte.
+// The length of the step at the front of the bytes, if the book says this width of their first byte, or of 0 where there is none. The
+// width is a value and no closure, since a call of a closure would ask something of the caller, which no public call does.
 pub fn front(width: Option<u8>, bytes: &[u8]) -> Result<usize, Misfit>
     ensures value { result ≡ front (λ _. width) bytes.now }
     ensures within { Within result (length bytes.now) }

@@ -88,7 +88,8 @@ pub struct Placed<F> {
     pub origin: Origin,
 }
 
-// One number of a net that a look may ask for: by place, or by transition and place.
+// One number of a net that a look may ask for: by place, or by transition and place. A take and a put are two looks, by the names that
+// their users have for them, and not one with a side.
 #[derive(Clone, Copy, Debug, PartialEq, Eq)]
 pub enum Look {
     Transitions,

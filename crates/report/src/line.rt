@@ -6,6 +6,7 @@ ghost use Rattle.report.specs.Texts.{text};
 use std::fmt;
 use stream::ReadFault;
 
+// A take and a put are two lines, as they are printed.
 #[derive(Clone, Copy, Debug, PartialEq, Eq)]
 pub enum Line {
     Long,

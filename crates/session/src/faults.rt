@@ -13,8 +13,8 @@ pub enum Cause<F> {
     Book(F),
 }
 
-// The fault of no book: a look asks none, and its refusals never hold it. No one outside can make it; its number, which the type of a
-// look's refusal asks for, is none of a refusal.
+// The fault of no book: a look asks none, and its refusals never hold it. No one outside can make it. It has a value, and that a number,
+// since the gate refuses the methods of a type without values, whose contracts no call can meet.
 #[derive(Clone, Copy, Debug, PartialEq, Eq)]
 pub struct NoBook(());
 
@@ -26,8 +26,8 @@ impl Numbered for NoBook {
     }
 }
 
-// A refused call: its cause, and where it arose. It is a type of this crate, since `?` makes it from the faults below by `From`s that
-// stand beside it.
+// A refused call: its cause, and where it arose. It is a type of this crate, as a `ReadFault` is of the reader's, since each has a call
+// of its own, `told`.
 #[derive(Clone, Copy, Debug, PartialEq, Eq, Drop)]
 pub struct SessionFault<F> {
     pub cause: Cause<F>,
@@ -35,7 +35,8 @@ pub struct SessionFault<F> {
 }
 
 // A book's fault, with the byte where the refused step starts and the count of the steps before it. It is a type of its own beside
-// `Placed`, since a `From` of that with any book's fault would overlap those with the net's fault and with a misfit.
+// `Placed`, since a `From` of that with any book's fault would overlap those with the net's fault and with a misfit. A caller that asks a
+// book by itself tells the session's refusal by it too.
 #[derive(Clone, Copy, Debug, PartialEq, Eq, Drop)]
 pub struct BookRefusal<F> {
     pub fault: F,

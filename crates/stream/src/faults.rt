@@ -13,7 +13,7 @@ pub enum Cause {
 }
 
 // A refused reading: its cause, and where it arose. The byte is the one where the command starts, and the count that of the
-// commands before it. It is a type of this crate, since `?` makes it from the net's fault by a `From` that stands beside it.
+// commands before it. It is a type of this crate, and no `Placed<Cause>`, since it has a call of its own, `told`.
 #[derive(Clone, Copy, Debug, PartialEq, Eq)]
 pub struct ReadFault {
     pub cause: Cause,

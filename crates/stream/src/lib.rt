@@ -90,7 +90,8 @@ fn apply(draft: &mut Draft<'_>, c: Command) -> Result<(), NetFault>
     }
 }
 
-// The position behind a command that starts here.
+// The position behind a command that starts here. A method of `Position`, for the steps of a session too, would be public and would ask
+// that nothing overflows.
 fn behind(at: Position, c: Command) -> Position
     requires bytes { at.byte + size c < 2 ^ 64 }
     requires count { at.count + 1 < 2 ^ 64 }
