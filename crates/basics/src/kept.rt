@@ -5,7 +5,7 @@ ghost use Rattle.std.specs.Prelude.{◌≡◌, ℕ, Bool, not, nat_eq};
 use checks::{Test, Transition};
 use net::Net;
 
-// Is the transition another than t?
+// Is the transition another than t? This and the next are two, since one with a flag would ask it in the test and in its meaning.
 #[derive(Clone, Copy, Debug, PartialEq, Eq)]
 pub(crate) struct Other {
     pub t: u8,

@@ -13,7 +13,7 @@ use std::ops::Range;
 pub fn places() -> Range<u8>
     ensures { (result.start ≡ 0) × (result.end ≡ 64) }
 {
-    // The cast loses nothing: there are 64 places. The end is a number of 8 bits, as places are told.
+    // No `try_from`, since the cast loses nothing: there are 64 places. The end is a number of 8 bits, as places are told.
     0..MOST_PLACES as u8
 }
 
@@ -21,7 +21,7 @@ pub fn places() -> Range<u8>
 pub fn transitions(net: &Net<'_>) -> Range<u8>
     ensures { (result.start ≡ 0) × (result.end ≡ (view net.now).transitions) }
 {
-    // The cast loses nothing: a net has at most 96 transitions.
+    // No `try_from`, since the cast loses nothing: a net has at most 96 transitions.
     0..net.shape.transitions as u8
 }
 
@@ -110,7 +110,7 @@ fn flag<T: Test>(net: &Net<'_>, test: &T, i: usize) -> bool
     requires { i < 96 }
     ensures { result ≡ (nat_lt i (T.Of.count (view net.now)) && T.Test.holds test.now (view net.now) i) }
 {
-    // The cast loses nothing: i is less than 96.
+    // No `try_from`, since the cast loses nothing: i is less than 96.
     i < usize::from(T::Of::of(net).end) && test.test(net, i as u8)
 }
 

@@ -35,7 +35,7 @@ pub(crate) fn is_two_sided(net: &Net<'_>, p: u8) -> bool
 }
 
 // If f is a consumer of p: does it take from p alone, and put into no support place? This sentence on consumers and that on feeders
-// stay apart, as in the definitions.
+// stay apart, here as in the definitions, so that a refusal can tell them apart.
 fn is_post_consumer(net: &Net<'_>, p: u8, f: u8) -> bool
     ensures { result ≡ (consumer? (view net.now) p f ⇒ every_place (λ q. (not (q == p) ⇒ nat_eq (take (view net.now) f q) 0) && (in_support (view net.now) q ⇒ nat_eq (put (view net.now) f q) 0))) }
 {

@@ -75,7 +75,7 @@ impl Ahead {
         requires { (ahead_fits? (view net.now) self.t self.k ≡ true) × (p < 64) }
         ensures { result ≡ mark_ahead (view net.now) self.t self.k p }
     {
-        // The casts lose nothing: a net has 64 places, and the mark is within its limit.
+        // No `try_from`, since the casts lose nothing: a net has 64 places, and the mark is within its limit.
         self.mark_at(net, p as u8) as u32
     }
 

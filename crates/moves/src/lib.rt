@@ -85,7 +85,8 @@ fn fire_times(net: &mut Net<'_>, ahead: Ahead) -> Result<(), NetFault>
 }
 
 // Adds the numbers of q to those of p in the marks and the first n rows of a sheet of the right size. The parts are numbered:
-// `as_chunks_mut::<64>` and `chunks_exact_mut` were tried, and their contracts do not say what the sheet ends as.
+// `as_chunks_mut::<64>` and `chunks_exact_mut` were tried, and their contracts do not say what the sheet ends as. To pass the shape in
+// place of n was tried too, and the goals of `fuse_net` stayed open.
 fn add_parts(sheet: &mut [u32; SHEET_SIZE], n: usize, p: usize, q: usize)
     requires places { (n ≤ 96) × ((p < 64) × ((q < 64) × (p ≢ q))) }
     requires sums { SumsFit sheet.old n p q }
@@ -129,7 +130,7 @@ const OWNED: Owned = Owned {
 };
 
 // The questions of a step of this book. A match here and in the rewrite: each step has operands of its own, and a closure for each would
-// be made in a match.
+// be made in a match. Both ask that the step is the book's own, since one type of steps serves all books.
 fn check(net: &Net<'_>, step: Step<'_>) -> Result<(), Refusal>
     requires { owns move_width (plain step) ≡ true }
     ensures { result ≡ judged (table (view net.now) (plain step.entry)) tt }

@@ -192,7 +192,7 @@ impl Net<'_> {
         ensures { result ≡ weighed (view self.now) side t p }
     {
         self.check_arc(t, p)?;
-        // The cast loses nothing: a net has at most 96 transitions.
+        // No `try_from`, since the cast loses nothing: a net has at most 96 transitions.
         Ok(self.sheet[side.base(t as u8) + p])
     }
 
@@ -210,7 +210,7 @@ impl Net<'_> {
     {
         self.check_size()?;
         match at {
-            // The cast loses nothing: a net has at most 96 transitions.
+            // No `try_from`, since the cast loses nothing: a net has at most 96 transitions.
             Look::Transitions => Ok(self.shape.transitions as u32),
             Look::Question => Ok(self.shape.question.into()),
             Look::Stands(p) => Ok(u32::from(flag_at(&self.shape.standing, p))),
@@ -274,7 +274,7 @@ impl Net<'_> {
         ensures { Answered result (view self.new) (view self.old) (arc_added (view self.old) side t p weight) }
     {
         self.check_arc(t, p)?;
-        // The cast loses nothing: a net has at most 96 transitions.
+        // No `try_from`, since the cast loses nothing: a net has at most 96 transitions.
         self.write_arc(side.base(t as u8) + p, weight)
     }
 

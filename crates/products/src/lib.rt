@@ -37,7 +37,7 @@ impl Pair {
         requires { (j < 128) × Fits (pair_row self (view net.now)) }
         ensures { result ≡ number (pair_row self (view net.now)) j }
     {
-        // The casts lose nothing: j is less than 128, and a product that is within the limits has weights of 16 bits.
+        // No `try_from`, since the casts lose nothing: j is less than 128, and a product that is within the limits has weights of 16 bits.
         if j < MOST_PLACES {
             self.weight(net, Side::Takes, j as u8) as u32
         } else {

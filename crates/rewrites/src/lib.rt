@@ -29,7 +29,7 @@ fn row_at(t: usize) -> Range<usize>
     requires { t ≤ 96 }
     ensures { (result.start ≡ 64 + 128 * t) × (result.end ≡ 192 + 128 * t) }
 {
-    // The cast loses nothing: t is at most 96.
+    // No `try_from`, since the cast loses nothing: t is at most 96.
     let from = Side::Takes.base(t as u8);
     from..from + 2 * MOST_PLACES
 }
@@ -95,7 +95,7 @@ fn clear_rest<F: Fn(u8) -> bool>(sheet: &mut [u32; SHEET_SIZE], stays: F)
     ensures { (i : ℕ) → i < 12352 → (b : Bool) × F.post stays (i % 64) b × (slice_index sheet.new i ≡ (if b then slice_index sheet.old i else 0)) }
 {
     for (i, number) in sheet.iter_mut().enumerate() {
-        // The cast loses nothing: a place is less than 64.
+        // No `try_from`, since the cast loses nothing: a place is less than 64.
         if !stays((i % MOST_PLACES) as u8) {
             *number = 0;
         }
@@ -135,7 +135,7 @@ fn stands_inside(standing: &[bool; MOST_PLACES], set: &[u8; 8], p: usize) -> boo
     requires { p < 64 }
     ensures { result ≡ (slice_index_or standing.now p false && member set.now p) }
 {
-    // The cast loses nothing: p is less than 64.
+    // No `try_from`, since the cast loses nothing: p is less than 64.
     standing[p] && is_member(set, p as u8)
 }
 

@@ -7,7 +7,8 @@ ghost use Rattle.rewrites.specs.Rows.{Appended, append_checks, Extended};
 use crate::row_at;
 use net::{MOST_TRANSITIONS, Net, NetFault, ROW_SIZE};
 
-// Writes rows behind the first n rows of a sheet.
+// Writes rows behind the first n rows of a sheet of the right size. It stays a slice: with an array of it the goals of `append_rows`
+// stayed open.
 fn write_rows(sheet: &mut [u32], n: usize, rows: &[[u32; ROW_SIZE]])
     requires { (length sheet.old ≡ 12352) × (n + length rows.now ≤ 96) }
     ensures { Appended sheet.old sheet.new rows.now n (length rows.now) }

@@ -18,7 +18,7 @@ fn touches(net: &Net<'_>, side: Side, set: &[u8; 8], t: u8) -> bool
     places().any(|p| is_member(set, p) && weight_of(net, side, t, p) > 0)
 }
 
-// Does t take from outside the set? This stays apart: a closure for inside and outside would have to stand in the contract of one
+// Does t take from outside the set? This stays apart: a closure or a flag for inside and outside would have to stand in the contract of one
 // function for both, which would be longer than this one.
 #[tactic(auto, unfolding(theory::specs::Tests::some))]
 fn takes_outside(net: &Net<'_>, set: &[u8; 8], t: u8) -> bool

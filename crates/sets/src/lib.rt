@@ -82,7 +82,7 @@ const OWNED: Owned = Owned {
 };
 
 // The questions of a step of this book. A match here and in the rewrite: each step has operands of its own, and a closure for each would
-// be made in a match.
+// be made in a match. Both ask that the step is the book's own, since one type of steps serves all books.
 fn check(net: &Net<'_>, step: Step<'_>) -> Result<(), Refusal>
     requires { owns set_width (plain step) ≡ true }
     ensures { result ≡ judged (table (view net.now) (plain step.entry)) tt }

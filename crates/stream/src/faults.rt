@@ -36,6 +36,7 @@ impl ReadFault {
     pub fn told(self) -> Told
         ensures { result ≡ read_told self }
     {
+        // The numbers stand here, since an enum with a fault in one case has none of its own.
         let number = match self.cause {
             Cause::Short => 2,
             Cause::Unknown => 3,
