@@ -1,8 +1,8 @@
 -- What every house book keeps, and what its take gives.
-use Rattle.std.proofs.Common.{◌≡◌, ℕ, Bool, true, false, cond, List, [], ◌∷◌, get_or, Option, Ok, Err, Result, sym, refl, ap, ◌∙◌}
+use Rattle.std.proofs.Common.{◌≡◌, ℕ, Bool, true, false, cond, List, [], ◌∷◌, get_or, Option, Ok, Err, Result, sym, ap, ◌∙◌}
 use Rattle.net.specs.declared.net.NetFault.{NetFault}
 use Rattle.net.specs.declared.net.NetFault.TheVariants.{WrongSize}
-use Rattle.net.specs.Refusals.{Check, ◌unless◌, judged, Passes}
+use Rattle.net.specs.Refusals.{Check, ◌unless◌, judged}
 use Rattle.net.specs.States.{State, sized, said, left, Answered}
 use Rattle.net.specs.Qualities.{Qualities}
 use Rattle.net.specs.Looks.{measured}
@@ -12,7 +12,6 @@ use Rattle.theory.specs.Steps as steps
 use Rattle.theory.specs.Laws.{Kept}
 use Rattle.theory.proofs.Lawful.{steps_are_lawful}
 use Rattle.books.specs.declared.faults.Misfit.{Misfit}
-use Rattle.books.specs.declared.faults.Misfit.TheVariants.{Unknown}
 use Rattle.books.specs.Frames.{Widths, framed, misfit_number, RefusesMisfits}
 use Rattle.books.specs.House.{with_fault, after, house_taken}
 

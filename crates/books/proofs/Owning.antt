@@ -1,5 +1,5 @@
 -- What a house book owns: its widths are narrow, and each whole step of it is one of its own.
-use Rattle.std.proofs.Common.{◌≡◌, ℕ, ◌≤◌, Bool, true, false, cond, ◌&&◌, eqb, leb, List, is_some, None, Ok, Err, Result, refl, sym, subst, ap, ◌∙◌, rules, arith}
+use Rattle.std.proofs.Common.{◌≡◌, ℕ, ◌≤◌, Bool, true, false, cond, ◌&&◌, eqb, leb, List, is_some, Ok, Err, Result, refl, sym, subst, ap, ◌∙◌, rules, arith}
 use Rattle.std.proofs.lemmas.Bool.{both_ways, eqb-true}
 use Rattle.net.specs.declared.net.NetFault.{NetFault}
 use Rattle.net.specs.Looks.{measured, sheet_checks}

@@ -1,6 +1,6 @@
 -- The conditions of the steps as tests that compute, of a state. Beside each stands, in the proofs, that it says the same as the
 -- condition in words of the net that the state holds.
-use Rattle.std.specs.Prelude.{ℕ, zero, suc, ◌+◌, ◌-◌, ◌*◌, ◌/◌, ◌%◌, ◌^◌, Bool, true, false, cond, not, ◌&&◌, ◌||◌, nat_lt, nat_le, List, filter, Option, ◌==◌, nat_eq, slice_index}
+use Rattle.std.specs.Prelude.{ℕ, ◌+◌, ◌-◌, ◌*◌, ◌/◌, ◌%◌, ◌^◌, Bool, false, cond, not, ◌&&◌, ◌||◌, nat_lt, nat_le, List, filter, Option, ◌==◌, nat_eq, slice_index}
 use Rattle.std.specs.List.{range_with_len, list_all, list_any, find}
 use Rattle.std.specs.Option.{unwrap_or}
 use Rattle.net.specs.Sheets.{Row, most_mark, most_weight}
