@@ -103,7 +103,7 @@ pub fn measure(sheet: &[u32]) -> Result<(), NetFault>
     }
 }
 
-// Writes 0 everywhere.
+// Writes 0 everywhere. The sheet stays a slice, as it is lent: an array of it would need a case that never comes.
 fn wipe(sheet: &mut [u32])
     requires { length sheet.old ≡ 12352 }
     ensures { sheet.new ≡ sheet_of (λ _. 0) [] }
@@ -187,7 +187,8 @@ impl Net<'_> {
         Ok(self.sheet[p])
     }
 
-    // The weight of a transition at a place, on one side.
+    // The weight of a transition at a place, on one side. Side, transition and place are three values here and in the crates above, and no
+    // struct, since looks and calls name them apart.
     fn weight(&self, side: Side, t: usize, p: usize) -> Result<u32, NetFault>
         ensures { result ≡ weighed (view self.now) side t p }
     {

@@ -144,7 +144,8 @@ fn new_sheet(heap: Global, n: usize) -> Result<Vec<u32>, AllocError>
     vec![in heap; 0u32; n]
 }
 
-// The lines to print for an input: reads a net from its front and feeds the rest to a session, over a sheet of the size of a net's sheet.
+// The lines to print for an input: reads a net from its front and feeds the rest to a session, over a sheet of the size of a net's sheet,
+// a slice, as a draft is lent it.
 fn report_over(heap: Global, sheet: &mut [u32], input: &[u8]) -> Result<Vec<Line>, AllocError>
     requires { length sheet.old ≡ 12352 }
     ensures { IfOk result (λ v. v.items ≡ reading_lines (reading input.now) input.now) }

@@ -24,7 +24,7 @@ use std::ops::Range;
 // The sheet and the shape of a net are passed apart: only the sheet becomes an array, once its size is known. Flags and sheets are
 // arrays of fixed size, since nothing is allocated.
 
-// Where row t lies in a sheet: its takes, then its puts.
+// Where row t lies in a sheet: its takes, then its puts. Any row may be meant, or the one behind the last, so that no shape stands for t.
 fn row_at(t: usize) -> Range<usize>
     requires { t ≤ 96 }
     ensures { (result.start ≡ 64 + 128 * t) × (result.end ≡ 192 + 128 * t) }
