@@ -1,4 +1,4 @@
-// Reads a net stream from standard input and prints the net: a thin program over the library.
+// Reads a net stream and steps from standard input and prints what is left: a thin program over the library.
 #![tactic(auto)]
 
 use report::{MOST_INPUT, print, report};

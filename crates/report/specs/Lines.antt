@@ -11,11 +11,7 @@ use Rattle.net.specs.Looks.{looked}
 use Rattle.stream.specs.declared.faults.ReadFault.{ReadFault}
 use Rattle.stream.specs.Faults.{read_told}
 use Rattle.stream.specs.Streams.{Reading, reading}
-use Rattle.theory.specs.declared.refusal.Refusal.{Refusal}
-use Rattle.theory.specs.Steps.{refusal_number}
-use Rattle.books.specs.declared.faults.BookFault.{BookFault}
-use Rattle.books.specs.Faults.{book_number}
-use Rattle.basics.specs.Basics.{basic_width, basic_taken}
+use Rattle.house.specs.House.{HouseFault, house_number, house_width, taken_by_house}
 use Rattle.session.specs.declared.faults.SessionFault.{SessionFault}
 use Rattle.session.specs.Faults.{session_told}
 use Rattle.session.specs.Feeds.{Meaning, meaning, End, fed}
@@ -60,22 +56,18 @@ arc_lines s = flat_map (transition_lines s) (range_with_len 0 s.transitions)
 abbrev pub net_lines : State → List Line
 net_lines s = place_lines s ++ arc_lines s
 
--- What the house book refuses.
-abbrev pub BasicFault : Type 0
-BasicFault = BookFault Refusal 0x20
-
 -- The steps behind the net: how many were taken and, where one was refused, its number and the byte of the input where it starts.
-abbrev pub step_lines : ℕ → Result ℕ (SessionFault BasicFault) → List Line
+abbrev pub step_lines : ℕ → Result ℕ (SessionFault HouseFault) → List Line
 step_lines used (Ok n) = Taken n ∷ []
-step_lines used (Err f) = Taken f.origin.at.count ∷ Refused (session_told (book_number refusal_number) f).number (used + f.origin.at.byte) ∷ []
+step_lines used (Err f) = Taken f.origin.at.count ∷ Refused (session_told house_number f).number (used + f.origin.at.byte) ∷ []
 
 -- Then the net that stands.
-abbrev pub end_lines : ℕ → End BasicFault → List Line
+abbrev pub end_lines : ℕ → End HouseFault → List Line
 end_lines used e = step_lines used e.said ++ net_lines e.state
 
 -- The bytes behind the net stream are fed to a session with the house book.
-abbrev pub house : Meaning BasicFault
-house = meaning basic_width basic_taken
+abbrev pub house : Meaning HouseFault
+house = meaning house_width taken_by_house
 
 -- A refused net has one line: the number of the refusal, and the byte where the refused command starts.
 abbrev pub fault_line : ReadFault → Line

@@ -13,7 +13,7 @@ ghost use Rattle.report.specs.Texts.{ended_line, printed};
 
 mod line;
 
-use basics::{BasicFault, Basics};
+use house::{HouseFault, house};
 pub use line::Line;
 use net::{Draft, Look, MOST_PLACES, Net, SHEET_SIZE, Side};
 use session::{Session, SessionFault};
@@ -102,7 +102,7 @@ pub fn print(heap: Global, lines: &[Line]) -> Result<String, AllocError>
 fn step_lines(
     heap: Global,
     used: usize,
-    said: Result<usize, SessionFault<BasicFault>>,
+    said: Result<usize, SessionFault<HouseFault>>,
 ) -> Result<Vec<Line>, AllocError>
     requires { PlaceWithin said (2 ^ 64 - 1 - used) }
     ensures { IfOk result (λ v. v.items ≡ step_lines used said) }
@@ -130,7 +130,7 @@ fn session_lines(
     requires { used + length rest.now < 2 ^ 64 }
     ensures { IfOk result (λ v. v.items ≡ end_lines used (fed house (opened session.old) rest.now)) }
 {
-    let said = session.feed(&Basics, rest);
+    let said = session.feed(&house(), rest);
     let mut lines = step_lines(heap, used, said)?;
     place_lines(&mut lines, session.net())?;
     arc_lines(&mut lines, session.net())?;

@@ -1,6 +1,7 @@
 // Runs tables of cases through the report and compares what it prints, line by line.
 // A line of a table has a name, the input in hex, and the expected lines joined by semicolons, with tabs between. The input is
-// written in groups with spaces between; a group may be repeated, as 00x16.
+// written in groups with spaces between; a group may be repeated, as 00x16. The expected lines of vectors.tsv come from an independent
+// model of the formats and the rules, those of the other tables are worked out by hand.
 #![tactic(auto)]
 
 use anyhow::anyhow;
