@@ -15,7 +15,7 @@ mod tests {
     use std::test::Fail;
     use stream::read;
 
-    // The number of the refusal of a step by the customer's book joined with the house book, if it is refused.
+    // The number of the refusal of a step by the customer's book joined with the first house book, if it is refused.
     fn refused(net: &mut Net<'_>, step: &[u8]) -> Option<u8> {
         number(join(Checkpoint, Basics).take(net, step))
     }
@@ -77,7 +77,7 @@ mod tests {
         }
         match join(Checkpoint, Basics).take(&mut net, &[0x7f]) {
             Err(EitherFault::Second(fault)) => assert_eq!(rt; fault.number(), 1),
-            _ => return Err(Fail::new("the house book refuses the sheet")),
+            _ => return Err(Fail::new("the first house book refuses the sheet")),
         }
         assert_eq!(rt; net.sheet.len(), 12_351);
         Ok(())

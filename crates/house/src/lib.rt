@@ -3,16 +3,14 @@
 
 ghost use Rattle.house.specs.House.{JudgesSteps, TakesSteps};
 
-pub use basics::BasicFault;
-use basics::Basics;
-pub use books::joined::EitherFault;
-use books::joined::{Joined, join};
-pub use merges::MergeFault;
-use merges::Merges;
-pub use moves::MoveFault;
-use moves::Moves;
-pub use sets::SetFault;
-use sets::Sets;
+pub use basics::{BasicFault, Basics};
+pub use books::faults::{BookFault, Misfit, Numbered};
+use books::joined::join;
+pub use books::joined::{EitherFault, Joined};
+pub use merges::{MergeFault, Merges};
+pub use moves::{MoveFault, Moves};
+pub use sets::{SetFault, Sets};
+pub use theory::Refusal;
 
 pub type House = Joined<Basics, Joined<Sets, Joined<Merges, Moves>>>;
 

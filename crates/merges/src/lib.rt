@@ -63,8 +63,7 @@ fn check_products(net: &Net<'_>, kind: Kind, p: u8) -> Result<(), Refusal>
     Ok(())
 }
 
-// The questions of post-agglomeration. Here and below each sentence has a test of its own, as it has a line in the table, though one number
-// refuses several.
+// The questions of post-agglomeration. Here and below each line of the table has an `if` of its own, though one number refuses several.
 fn check_post(net: &Net<'_>, p: u8) -> Result<(), Refusal>
     ensures { result ≡ judged (table (view net.now) (post_agglomerate p)) tt }
 {
