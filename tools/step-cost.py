@@ -83,14 +83,15 @@ def nets():
     rest = dense(64, 18, skip=(0,))
     feed = [({p: 1 for p in range(1, 64)}, {**{p: 1 for p in range(1, 64)}, 0: 1}) for _ in range(4)]
     use = [({0: 1}, {p: 1 for p in range(1, 64)}) for _ in range(8)]
-    yield '2A', [(0, 0)] + marks[1:], rest + feed + use, 3, bytes([0x2a, 0])
+    yield '2A, 4 × 8 neighbours', [(0, 0)] + marks[1:], rest + feed + use, 3, bytes([0x2a, 0])
+    yield '2A, 1 × 32 neighbours', [(0, 0)] + marks[1:], rest[:63] + feed[:1] + use * 4, 3, bytes([0x2a, 0])
     own = dense(64, 18, skip=range(0, 6))
     sources = [({1 + h: 1}, {0: 1}) for h in range(4)]
     sinks = [({0: 1, **{p: 1 for p in range(6, 64)}}, {p: 1 for p in range(6, 64)}) for _ in range(8)]
-    yield '2B', [(0, 0)] + marks[1:], own + sources + sinks, 3, bytes([0x2b, 0])
+    yield '2B, 4 × 8 neighbours', [(0, 0)] + marks[1:], own + sources + sinks, 3, bytes([0x2b, 0])
     takers = [({p: 1 for p in range(1, 64)}, {0: 1}) for _ in range(4)]
     givers = [({**{p: 1 for p in range(1, 64)}, 0: 1}, {p: 1 for p in range(1, 64)}) for _ in range(8)]
-    yield '2C', [(0, 0)] + marks[1:], rest + takers + givers, 1, bytes([0x2c, 0])
+    yield '2C, 4 × 8 neighbours', [(0, 0)] + marks[1:], rest + takers + givers, 1, bytes([0x2c, 0])
     ahead = dense(95, 32, skip=(0,))
     yield '2D', [(5, 0)] + marks[1:], [({0: 1}, {p: 1 for p in range(1, 64)})] + ahead, 3, bytes([0x2d, 0, 0, 3])
     fused = dense(90, 33)
