@@ -2,6 +2,7 @@
 #![tactic(auto)]
 
 ghost use Rattle.std.specs.Prelude.{◌≡◌, true, refl};
+ghost use Rattle.net.specs.Views.{SameSheet};
 ghost use Rattle.net.specs.Refusals.{judged, Passes};
 ghost use Rattle.net.specs.Looks.{Leaves};
 ghost use Rattle.net.specs.States.{view, stands};
@@ -177,14 +178,16 @@ fn check_implied(net: &Net<'_>, p: u8, q: u8, k: u16) -> Result<(), Refusal>
 
 // Drops one transition.
 fn drop_transition(net: &mut Net<'_>, t: u8) -> Result<(), NetFault>
-    ensures { Leaves result (view net.new) (view net.old) (dropping t (view net.old)) }
+    ensures exact { Leaves result (view net.new) (view net.old) (dropping t (view net.old)) }
+    ensures lent { SameSheet net.new net.old }
 {
     keep_where(net, &Other { t })
 }
 
 // Drops all transitions but one.
 fn keep_transition(net: &mut Net<'_>, t: u8) -> Result<(), NetFault>
-    ensures { Leaves result (view net.new) (view net.old) (keeping_only t (view net.old)) }
+    ensures exact { Leaves result (view net.new) (view net.old) (keeping_only t (view net.old)) }
+    ensures lent { SameSheet net.new net.old }
 {
     keep_where(net, &Only { t })
 }
@@ -192,7 +195,8 @@ fn keep_transition(net: &mut Net<'_>, t: u8) -> Result<(), NetFault>
 // Removes a place that stands.
 fn leave_place(net: &mut Net<'_>, p: u8) -> Result<(), NetFault>
     requires { stands (view net.old) p ≡ true }
-    ensures { Leaves result (view net.new) (view net.old) (leaving p (view net.old)) }
+    ensures exact { Leaves result (view net.new) (view net.old) (leaving p (view net.old)) }
+    ensures lent { SameSheet net.new net.old }
 {
     remove_place(net, usize::from(p))
 }
@@ -228,7 +232,8 @@ fn check(net: &Net<'_>, step: Step<'_>) -> Result<(), Refusal>
 fn rewrite(net: &mut Net<'_>, step: Step<'_>) -> Result<(), NetFault>
     requires own { owns basic_width (plain step) ≡ true }
     requires passes { Passes (table (view net.old) (plain step)) }
-    ensures { Leaves result (view net.new) (view net.old) (next (view net.old) (plain step.entry)) }
+    ensures exact { Leaves result (view net.new) (view net.old) (next (view net.old) (plain step.entry)) }
+    ensures lent { SameSheet net.new net.old }
 {
     match step {
         Step::DropDominated(t, _)

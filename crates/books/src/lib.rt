@@ -2,6 +2,7 @@
 #![tactic(auto)]
 
 ghost use Rattle.std.specs.Prelude.{◌≡◌, ℕ, ◌+◌, ◌≤◌, List, length, Ok, Err, Option, Result, slice_index};
+ghost use Rattle.net.specs.Views.{SameSheet};
 ghost use Rattle.net.specs.Qualities.{Qualities};
 ghost use Rattle.net.specs.States.{State, view, Answered};
 ghost use Rattle.theory.specs.Laws.{Kept};
@@ -31,7 +32,8 @@ pub trait Book {
 
     // Judges the step and takes it, or refuses it and changes nothing.
     fn take(&self, net: &mut Net<'_>, step: &[u8]) -> Result<(), Self::Fault>
-        ensures { Answered result (view net.new) (view net.old) (taken (view net.old) step.now) };
+        ensures exact { Answered result (view net.new) (view net.old) (taken (view net.old) step.now) }
+        ensures lent { SameSheet net.new net.old };
 
     // The law: a taken step keeps the qualities of a net, every support place standing, and the answers to the open questions.
     ghost keeps: { (s t : State) (bytes : List ℕ) → Qualities s → taken s bytes ≡ Ok t → Kept s t };

@@ -2,6 +2,7 @@
 #![tactic(auto)]
 
 ghost use Rattle.std.specs.Prelude.{◌≡◌, true, refl};
+ghost use Rattle.net.specs.Views.{SameSheet};
 ghost use Rattle.net.specs.Refusals.{judged, Passes};
 ghost use Rattle.net.specs.Looks.{Leaves};
 ghost use Rattle.net.specs.States.{view};
@@ -111,7 +112,8 @@ fn check_free(net: &Net<'_>, p: u8) -> Result<(), Refusal>
 // Replaces the feeders and consumers of p by their products, where the last questions have passed.
 fn merge_products(net: &mut Net<'_>, kind: Kind, p: u8) -> Result<(), NetFault>
     requires { Passes (merge_checks (view net.old) p (merging (product_row kind (view net.old) p) p (view net.old))) }
-    ensures { Leaves result (view net.new) (view net.old) (merging (product_row kind (view net.old) p) p (view net.old)) }
+    ensures exact { Leaves result (view net.new) (view net.old) (merging (product_row kind (view net.old) p) p (view net.old)) }
+    ensures lent { SameSheet net.new net.old }
 {
     merge(net, kind, p)
 }
@@ -142,7 +144,8 @@ fn check(net: &Net<'_>, step: Step<'_>) -> Result<(), Refusal>
 fn rewrite(net: &mut Net<'_>, step: Step<'_>) -> Result<(), NetFault>
     requires own { owns merge_width (plain step) ≡ true }
     requires passes { Passes (table (view net.old) (plain step)) }
-    ensures { Leaves result (view net.new) (view net.old) (next (view net.old) (plain step.entry)) }
+    ensures exact { Leaves result (view net.new) (view net.old) (next (view net.old) (plain step.entry)) }
+    ensures lent { SameSheet net.new net.old }
 {
     match step {
         Step::PostAgglomerate(p) => merge_products(net, Kind::Post, p),

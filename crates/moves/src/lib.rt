@@ -2,6 +2,7 @@
 #![tactic(auto)]
 
 ghost use Rattle.std.specs.Prelude.{◌≡◌, ◌+◌, ◌*◌, ◌<◌, ◌≤◌, true, false, ◌==◌, ◌≢◌, IfOk, IfErr, refl};
+ghost use Rattle.net.specs.Views.{SameSheet};
 ghost use Rattle.net.specs.Refusals.{judged, Passes};
 ghost use Rattle.net.specs.Looks.{Leaves, measured};
 ghost use Rattle.net.specs.States.{view, stands};
@@ -79,7 +80,8 @@ fn check_fusion(net: &Net<'_>, fusion: Fusion) -> Result<(), Refusal>
 // Fires a transition k times.
 fn fire_times(net: &mut Net<'_>, ahead: Ahead) -> Result<(), NetFault>
     requires { ahead_fits? (view net.old) ahead.t ahead.k ≡ true }
-    ensures { Leaves result (view net.new) (view net.old) (firing_ahead ahead.t ahead.k (view net.old)) }
+    ensures exact { Leaves result (view net.new) (view net.old) (firing_ahead ahead.t ahead.k (view net.old)) }
+    ensures lent { SameSheet net.new net.old }
 {
     write_marks(net, &ahead.marks(net))
 }
@@ -114,7 +116,8 @@ fn add_place(sheet: &mut [u32], n: usize, p: usize, q: usize) -> Result<(), NetF
 fn fuse_net(net: &mut Net<'_>, fusion: Fusion) -> Result<(), NetFault>
     requires places { (stands (view net.old) fusion.p ≡ true) × ((stands (view net.old) fusion.q ≡ true) × ((fusion.p == fusion.q) ≡ false)) }
     requires sums { fusion_fits? (view net.old) fusion.p fusion.q ≡ true }
-    ensures { Leaves result (view net.new) (view net.old) (fusing fusion.p fusion.q (view net.old)) }
+    ensures exact { Leaves result (view net.new) (view net.old) (fusing fusion.p fusion.q (view net.old)) }
+    ensures lent { SameSheet net.new net.old }
 {
     let n = net.shape.transitions;
     add_place(net.sheet, n, usize::from(fusion.p), usize::from(fusion.q))?;
@@ -146,7 +149,8 @@ fn check(net: &Net<'_>, step: Step<'_>) -> Result<(), Refusal>
 fn rewrite(net: &mut Net<'_>, step: Step<'_>) -> Result<(), NetFault>
     requires own { owns move_width (plain step) ≡ true }
     requires passes { Passes (table (view net.old) (plain step)) }
-    ensures { Leaves result (view net.new) (view net.old) (next (view net.old) (plain step.entry)) }
+    ensures exact { Leaves result (view net.new) (view net.old) (next (view net.old) (plain step.entry)) }
+    ensures lent { SameSheet net.new net.old }
 {
     match step {
         Step::FireAhead(t, k) => fire_times(net, Ahead { t, k }),

@@ -8,7 +8,7 @@ ghost use Rattle.net.specs.Refusals.{judged, origin_at, net_told, placed};
 ghost use Rattle.net.specs.States.{view, question_number, Answered};
 ghost use Rattle.net.specs.Looks.{looked, weighed, measured, place_checked, arc_checked};
 ghost use Rattle.net.specs.Qualities.{Sound, DraftsHaveQualities};
-ghost use Rattle.net.specs.Views.{drafted};
+ghost use Rattle.net.specs.Views.{drafted, Holds, SameSheet};
 ghost use Rattle.net.specs.Drafts.{next_place, place_added, transition_added, weight_checks, with_number, arc_added, arc_in_added, arc_out_added, question_asked, question_told, cleared, started};
 
 mod draft;
@@ -223,7 +223,8 @@ impl Net<'_> {
     }
 
     pub(crate) fn place(&mut self, mark: u32, flag: u32) -> Result<(), NetFault>
-        ensures { Answered result (view self.new) (view self.old) (place_added (view self.old) mark flag) }
+        ensures exact { Answered result (view self.new) (view self.old) (place_added (view self.old) mark flag) }
+        ensures lent { SameSheet self.new self.old }
     {
         self.check_size()?;
         let p = next_place(&self.shape.standing).ok_or(NetFault::TooManyPlaces)?;
@@ -239,7 +240,8 @@ impl Net<'_> {
     }
 
     pub(crate) fn transition(&mut self) -> Result<(), NetFault>
-        ensures { Answered result (view self.new) (view self.old) (transition_added (view self.old)) }
+        ensures exact { Answered result (view self.new) (view self.old) (transition_added (view self.old)) }
+        ensures lent { SameSheet self.new self.old }
     {
         self.check_size()?;
         if self.shape.transitions >= MOST_TRANSITIONS {
@@ -252,7 +254,8 @@ impl Net<'_> {
     // Writes the weight of an arc that is not there yet.
     fn write_arc(&mut self, at: usize, weight: u32) -> Result<(), NetFault>
         requires { at < length self.old.sheet.now }
-        ensures { Answered result (view self.new) (view self.old) (judged (weight_checks (view self.old) at weight) (with_number (view self.old) at weight)) }
+        ensures exact { Answered result (view self.new) (view self.old) (judged (weight_checks (view self.old) at weight) (with_number (view self.old) at weight)) }
+        ensures lent { SameSheet self.new self.old }
     {
         if weight == 0 || weight > MOST_WEIGHT {
             return Err(NetFault::BadWeight);
@@ -272,7 +275,8 @@ impl Net<'_> {
         p: usize,
         weight: u32,
     ) -> Result<(), NetFault>
-        ensures { Answered result (view self.new) (view self.old) (arc_added (view self.old) side t p weight) }
+        ensures exact { Answered result (view self.new) (view self.old) (arc_added (view self.old) side t p weight) }
+        ensures lent { SameSheet self.new self.old }
     {
         self.check_arc(t, p)?;
         // No `try_from`, since the cast loses nothing: a net has at most 96 transitions.
@@ -280,7 +284,8 @@ impl Net<'_> {
     }
 
     pub(crate) fn ask(&mut self, question: u32) -> Result<(), NetFault>
-        ensures { Answered result (view self.new) (view self.old) (question_told (view self.old) question) }
+        ensures exact { Answered result (view self.new) (view self.old) (question_told (view self.old) question) }
+        ensures lent { SameSheet self.new self.old }
     {
         self.check_size()?;
         self.shape.question = Question::try_from(question)?;
@@ -288,7 +293,8 @@ impl Net<'_> {
     }
 
     pub(crate) fn clear(&mut self) -> Result<(), NetFault>
-        ensures { Answered result (view self.new) (view self.old) (cleared (view self.old)) }
+        ensures exact { Answered result (view self.new) (view self.old) (cleared (view self.old)) }
+        ensures lent { SameSheet self.new self.old }
     {
         self.check_size()?;
         wipe(self.sheet);
@@ -302,6 +308,7 @@ impl<'a> Draft<'a> {
     // of the draft refuse it.
     pub fn start(sheet: &'a mut [u32]) -> Draft<'a>
         ensures drafted { drafted result ≡ started sheet.old }
+        ensures lent { Holds sheet.entry result.net }
         ensures qualities { DraftsHaveQualities }
     {
         prepare(sheet);
@@ -317,6 +324,7 @@ impl<'a> Draft<'a> {
     pub fn finish(self) -> Net<'a>
         ensures net { view result ≡ drafted self.entry }
         ensures qualities { ∥ Sound (view result) ∥₁ }
+        ensures lent { SameSheet result self.entry.net }
     {
         let Draft { net } = self;
         net
@@ -324,42 +332,48 @@ impl<'a> Draft<'a> {
 
     // Adds a place with its start mark; the flag 1 puts it into the support. The flag is a number, since others than 0 and 1 are refused.
     pub fn place(&mut self, mark: u32, flag: u32) -> Result<(), NetFault>
-        ensures { Answered result (drafted self.new) (drafted self.old) (place_added (drafted self.old) mark flag) }
+        ensures exact { Answered result (drafted self.new) (drafted self.old) (place_added (drafted self.old) mark flag) }
+        ensures lent { SameSheet self.new.net self.old.net }
     {
         self.net.place(mark, flag)
     }
 
     // Adds a transition without arcs.
     pub fn transition(&mut self) -> Result<(), NetFault>
-        ensures { Answered result (drafted self.new) (drafted self.old) (transition_added (drafted self.old)) }
+        ensures exact { Answered result (drafted self.new) (drafted self.old) (transition_added (drafted self.old)) }
+        ensures lent { SameSheet self.new.net self.old.net }
     {
         self.net.transition()
     }
 
     // Adds an arc from a place to a transition. This call and the next are two, as the two kinds of arcs are; what they do is one function.
     pub fn arc_in(&mut self, t: usize, p: usize, weight: u32) -> Result<(), NetFault>
-        ensures { Answered result (drafted self.new) (drafted self.old) (arc_in_added (drafted self.old) t p weight) }
+        ensures exact { Answered result (drafted self.new) (drafted self.old) (arc_in_added (drafted self.old) t p weight) }
+        ensures lent { SameSheet self.new.net self.old.net }
     {
         self.net.arc(Side::Takes, t, p, weight)
     }
 
     // Adds an arc from a transition to a place.
     pub fn arc_out(&mut self, t: usize, p: usize, weight: u32) -> Result<(), NetFault>
-        ensures { Answered result (drafted self.new) (drafted self.old) (arc_out_added (drafted self.old) t p weight) }
+        ensures exact { Answered result (drafted self.new) (drafted self.old) (arc_out_added (drafted self.old) t p weight) }
+        ensures lent { SameSheet self.new.net self.old.net }
     {
         self.net.arc(Side::Puts, t, p, weight)
     }
 
     // Tells the question by its number, since one that no question has is refused.
     pub fn question(&mut self, number: u32) -> Result<(), NetFault>
-        ensures { Answered result (drafted self.new) (drafted self.old) (question_told (drafted self.old) number) }
+        ensures exact { Answered result (drafted self.new) (drafted self.old) (question_told (drafted self.old) number) }
+        ensures lent { SameSheet self.new.net self.old.net }
     {
         self.net.ask(number)
     }
 
     // Makes the draft that of the empty net again.
     pub fn clear(&mut self) -> Result<(), NetFault>
-        ensures { Answered result (drafted self.new) (drafted self.old) (cleared (drafted self.old)) }
+        ensures exact { Answered result (drafted self.new) (drafted self.old) (cleared (drafted self.old)) }
+        ensures lent { SameSheet self.new.net self.old.net }
     {
         self.net.clear()
     }

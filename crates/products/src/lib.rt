@@ -2,6 +2,7 @@
 #![tactic(auto)]
 
 ghost use Rattle.std.specs.Prelude.{◌≡◌, ℕ, ◌+◌, ◌*◌, ◌<◌, ◌≤◌, true, false, List, ◌++◌, map, length, slice_index, slice_set};
+ghost use Rattle.net.specs.Views.{SameSheet};
 ghost use Rattle.net.specs.Looks.{Leaves};
 ghost use Rattle.net.specs.Refusals.{judged};
 ghost use Rattle.net.specs.Sheets.{Row, number};
@@ -142,7 +143,8 @@ fn flags_without(standing: &[bool; MOST_PLACES], p: u8) -> [bool; MOST_PLACES]
 // Drops the feeders and consumers of p, appends rows in their place, and lets p go.
 fn replace_rows(net: &mut Net<'_>, p: u8, rows: &[[u32; ROW_SIZE]]) -> Result<(), NetFault>
     requires { length (kept_rows (apart? (view net.old) p) (view net.old)) + length rows.now ≤ 96 }
-    ensures { (qs : List Row) → rows.now ≡ map numbers qs → Leaves result (view net.new) (view net.old) (replacing qs p (view net.old)) }
+    ensures exact { (qs : List Row) → rows.now ≡ map numbers qs → Leaves result (view net.new) (view net.old) (replacing qs p (view net.old)) }
+    ensures lent { SameSheet net.new net.old }
 {
     keep_where(net, &Apart { p })?;
     append_rows(net, rows)?;
@@ -152,7 +154,8 @@ fn replace_rows(net: &mut Net<'_>, p: u8, rows: &[[u32; ROW_SIZE]]) -> Result<()
 
 // Replaces the feeders and consumers of p by their products, and lets p go.
 pub fn merge(net: &mut Net<'_>, kind: Kind, p: u8) -> Result<(), NetFault>
-    ensures { Answered result (view net.new) (view net.old) (merged kind p (view net.old)) }
+    ensures exact { Answered result (view net.new) (view net.old) (merged kind p (view net.old)) }
+    ensures lent { SameSheet net.new net.old }
 {
     check_merge(net, kind, p)?;
     let rows = products(net, kind, p);

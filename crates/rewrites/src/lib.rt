@@ -2,6 +2,7 @@
 #![tactic(auto)]
 
 ghost use Rattle.std.specs.Prelude.{◌≡◌, ℕ, ◌+◌, ◌*◌, ◌%◌, ◌<◌, ◌≤◌, Bool, false, ◌&&◌, length, if◌then◌else◌, IfOk, nat_lt, slice_index, slice_index_or};
+ghost use Rattle.net.specs.Views.{SameSheet};
 ghost use Rattle.net.specs.Looks.{Leaves, place_checks};
 ghost use Rattle.net.specs.Refusals.{judged};
 ghost use Rattle.net.specs.Sheets.{mark_at, sheet_of};
@@ -148,7 +149,8 @@ fn flags_inside(standing: &[bool; MOST_PLACES], set: &[u8; 8]) -> [bool; MOST_PL
 
 // Keeps the transitions whose flag is true, and the list closes up; all rows after them become 0.
 pub fn keep_transitions(net: &mut Net<'_>, keep: &[bool; MOST_TRANSITIONS]) -> Result<(), NetFault>
-    ensures { Leaves result (view net.new) (view net.old) (keeping (λ t. slice_index_or keep.now t false) (view net.old)) }
+    ensures exact { Leaves result (view net.new) (view net.old) (keeping (λ t. slice_index_or keep.now t false) (view net.old)) }
+    ensures lent { SameSheet net.new net.old }
 {
     net.shape.transitions = keep_rows(net.sheet, &net.shape, keep)?;
     Ok(())
@@ -156,7 +158,8 @@ pub fn keep_transitions(net: &mut Net<'_>, keep: &[bool; MOST_TRANSITIONS]) -> R
 
 // Keeps the transitions of which the test holds, and the list closes up.
 pub fn keep_where<T: Test<Of = Transition>>(net: &mut Net<'_>, test: &T) -> Result<(), NetFault>
-    ensures { Leaves result (view net.new) (view net.old) (keeping (T.Test.holds test.now (view net.old)) (view net.old)) }
+    ensures exact { Leaves result (view net.new) (view net.old) (keeping (T.Test.holds test.now (view net.old)) (view net.old)) }
+    ensures lent { SameSheet net.new net.old }
 {
     let keep = flags(net, test);
     keep_transitions(net, &keep)
@@ -165,7 +168,8 @@ pub fn keep_where<T: Test<Of = Transition>>(net: &mut Net<'_>, test: &T) -> Resu
 // Removes the places outside a set: their marks, takes and puts become 0, and they no longer stand.
 #[tactic(auto, using(crate::proofs::Parts::length_changed))]
 pub fn limit_places(net: &mut Net<'_>, set: &[u8; 8]) -> Result<(), NetFault>
-    ensures { Leaves result (view net.new) (view net.old) (limited_to (member set.now) (view net.old)) }
+    ensures exact { Leaves result (view net.new) (view net.old) (limited_to (member set.now) (view net.old)) }
+    ensures lent { SameSheet net.new net.old }
 {
     leave_outside(net.sheet, &net.shape, set)?;
     net.shape.standing = flags_inside(&net.shape.standing, set);
@@ -175,7 +179,8 @@ pub fn limit_places(net: &mut Net<'_>, set: &[u8; 8]) -> Result<(), NetFault>
 // Removes a place: its mark, takes and puts become 0, and it no longer stands.
 #[tactic(auto, using(crate::proofs::Parts::length_changed))]
 pub fn remove_place(net: &mut Net<'_>, p: usize) -> Result<(), NetFault>
-    ensures { Answered result (view net.new) (view net.old) (judged (place_checks (view net.old) p) (leaving p (view net.old))) }
+    ensures exact { Answered result (view net.new) (view net.old) (judged (place_checks (view net.old) p) (leaving p (view net.old))) }
+    ensures lent { SameSheet net.new net.old }
 {
     net.check_place(p)?;
     leave_place(net.sheet, &net.shape, p)?;

@@ -1,5 +1,6 @@
 // New start marks for a net.
 ghost use Rattle.std.specs.Prelude.{◌≡◌, length, slice_index};
+ghost use Rattle.net.specs.Views.{SameSheet};
 ghost use Rattle.net.specs.Looks.{Leaves};
 ghost use Rattle.net.specs.Sheets.{rows_in, sheet_of};
 ghost use Rattle.net.specs.States.{view, rows};
@@ -23,7 +24,8 @@ fn mark_rows(sheet: &mut [u32], shape: &Shape, marks: &[u32; MOST_PLACES]) -> Re
 // Gives the net these start marks; its transitions and its places stay.
 #[tactic(auto, using(crate::proofs::Marking::length_rows_in))]
 pub fn write_marks(net: &mut Net<'_>, marks: &[u32; MOST_PLACES]) -> Result<(), NetFault>
-    ensures { Leaves result (view net.new) (view net.old) (rewritten (view net.old) (λ p. slice_index marks.now p) (rows (view net.old)) (view net.old).standing) }
+    ensures exact { Leaves result (view net.new) (view net.old) (rewritten (view net.old) (λ p. slice_index marks.now p) (rows (view net.old)) (view net.old).standing) }
+    ensures lent { SameSheet net.new net.old }
 {
     mark_rows(net.sheet, &net.shape, marks)
 }

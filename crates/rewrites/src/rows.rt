@@ -1,5 +1,6 @@
 // New rows for a net, behind its own.
 ghost use Rattle.std.specs.Prelude.{◌≡◌, ℕ, ◌+◌, ◌*◌, ◌<◌, ◌≤◌, length, IfOk, IfErr, slice_index};
+ghost use Rattle.net.specs.Views.{SameSheet};
 ghost use Rattle.net.specs.Refusals.{judged};
 ghost use Rattle.net.specs.States.{view};
 ghost use Rattle.rewrites.specs.Rows.{Appended, append_checks, Extended};
@@ -23,6 +24,7 @@ pub fn append_rows(net: &mut Net<'_>, rows: &[[u32; ROW_SIZE]]) -> Result<(), Ne
     ensures answer { result ≡ judged (append_checks (view net.old) (length rows.now)) tt }
     ensures appended { IfOk result (λ _. Extended (view net.new) (view net.old) rows.now) }
     ensures refused { IfErr result (λ _. view net.new ≡ view net.old) }
+    ensures lent { SameSheet net.new net.old }
 {
     net.check_size()?;
     let n = net.shape.transitions;

@@ -3,7 +3,7 @@
 
 ghost use Rattle.std.specs.Prelude.{◌≡◌, ◌+◌, ◌<◌, true, length, Ok, Err, Result, IfErr};
 ghost use Rattle.net.specs.States.{view, sized, Answered};
-ghost use Rattle.net.specs.Views.{drafted};
+ghost use Rattle.net.specs.Views.{drafted, Holds, SameSheet};
 ghost use Rattle.session.specs.Views.{opened};
 ghost use Rattle.session.specs.Faults.{IsBookless};
 ghost use Rattle.session.specs.Feeds.{meaning, proposed, stepped, fed_from, fed, looked_at, StepAnswered, FeedAnswered, PlaceWithin};
@@ -21,7 +21,8 @@ pub use session::Session;
 impl<'a> Session<'a> {
     // Opens a session on the net of a draft.
     pub fn open(draft: Draft<'a>) -> Session<'a>
-        ensures { opened result ≡ drafted draft.entry }
+        ensures exact { opened result ≡ drafted draft.entry }
+        ensures lent { SameSheet result.net draft.entry.net }
     {
         Session {
             net: draft.finish(),
@@ -30,7 +31,8 @@ impl<'a> Session<'a> {
 
     // Judges the bytes as exactly one step and takes it, or refuses it and changes nothing.
     pub fn propose<B: Book>(&mut self, book: &B, bytes: &[u8]) -> Result<(), SessionFault<B::Fault>>
-        ensures { Answered result (opened self.new) (opened self.old) (proposed (meaning B.Book.width_of B.Book.taken) (opened self.old) bytes.now) }
+        ensures exact { Answered result (opened self.new) (opened self.old) (proposed (meaning B.Book.width_of B.Book.taken) (opened self.old) bytes.now) }
+        ensures lent { SameSheet self.new.net self.old.net }
     {
         let at = Position::START;
         at_place(self.net.check_size(), at.origin(Layer::Net))?;
@@ -52,6 +54,7 @@ impl<'a> Session<'a> {
         requires { sized (opened self.old) ≡ true }
         ensures exact { StepAnswered result (opened self.new) (opened self.old) (stepped (meaning B.Book.width_of B.Book.taken) (opened self.old) bytes.now at.byte at.count) }
         ensures size { sized (opened self.new) ≡ true }
+        ensures lent { SameSheet self.new.net self.old.net }
     {
         let length = at_place(
             front(book.width(byte_at(bytes, 0)), bytes),
@@ -68,7 +71,8 @@ impl<'a> Session<'a> {
         bytes: &[u8],
     ) -> Result<usize, SessionFault<B::Fault>>
         requires { sized (opened self.old) ≡ true }
-        ensures { FeedAnswered result (opened self.new) (fed_from (meaning B.Book.width_of B.Book.taken) (length bytes.now) (opened self.old) bytes.now 0 0) }
+        ensures exact { FeedAnswered result (opened self.new) (fed_from (meaning B.Book.width_of B.Book.taken) (length bytes.now) (opened self.old) bytes.now 0 0) }
+        ensures lent { SameSheet self.new.net self.old.net }
     {
         let mut at = Position::START;
         // Each turn goes on by the length of its step, which no iterator over the bytes knows.
@@ -85,6 +89,7 @@ impl<'a> Session<'a> {
         ensures exact { FeedAnswered result (opened self.new) (fed (meaning B.Book.width_of B.Book.taken) (opened self.old) bytes.now) }
         ensures within { PlaceWithin result (length bytes.now) }
         ensures faithful { Faithful (meaning B.Book.width_of B.Book.taken) }
+        ensures lent { SameSheet self.new.net self.old.net }
     {
         at_place(self.net.check_size(), Position::START.origin(Layer::Net))?;
         self.take_steps(book, bytes)
@@ -108,7 +113,8 @@ impl<'a> Session<'a> {
 
     // Ends the session, and gives the sheet back.
     pub fn close(self) -> &'a mut [u32]
-        ensures { result.now ≡ (opened self.entry).sheet }
+        ensures numbers { result.now ≡ (opened self.entry).sheet }
+        ensures lent { Holds result self.entry.net }
     {
         let Session { net } = self;
         let sheet = net.sheet;

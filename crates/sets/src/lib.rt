@@ -2,6 +2,7 @@
 #![tactic(auto)]
 
 ghost use Rattle.std.specs.Prelude.{◌≡◌, true, refl};
+ghost use Rattle.net.specs.Views.{SameSheet};
 ghost use Rattle.net.specs.Refusals.{judged, Passes};
 ghost use Rattle.net.specs.Looks.{Leaves};
 ghost use Rattle.net.specs.States.{view};
@@ -67,7 +68,8 @@ fn check_limit(net: &Net<'_>, set: &[u8; 8]) -> Result<(), Refusal>
 
 // Drops the transitions that take from outside a set, and removes the places outside it.
 fn limit_net(net: &mut Net<'_>, set: &[u8; 8]) -> Result<(), NetFault>
-    ensures { Leaves result (view net.new) (view net.old) (limiting (member set.now) (view net.old)) }
+    ensures exact { Leaves result (view net.new) (view net.old) (limiting (member set.now) (view net.old)) }
+    ensures lent { SameSheet net.new net.old }
 {
     keep_where(net, &StaysInside { set })?;
     limit_places(net, set)
@@ -98,7 +100,8 @@ fn check(net: &Net<'_>, step: Step<'_>) -> Result<(), Refusal>
 fn rewrite(net: &mut Net<'_>, step: Step<'_>) -> Result<(), NetFault>
     requires own { owns set_width (plain step) ≡ true }
     requires passes { Passes (table (view net.old) (plain step)) }
-    ensures { Leaves result (view net.new) (view net.old) (next (view net.old) (plain step.entry)) }
+    ensures exact { Leaves result (view net.new) (view net.old) (next (view net.old) (plain step.entry)) }
+    ensures lent { SameSheet net.new net.old }
 {
     match step {
         Step::DropSiphon(set) => keep_where(net, &Spares { set }),

@@ -3,7 +3,7 @@
 
 ghost use Rattle.std.specs.Prelude.{◌≡◌, ◌+◌, ◌<◌, ◌^◌, true, length};
 ghost use Rattle.net.specs.States.{sized, Answered};
-ghost use Rattle.net.specs.Views.{drafted};
+ghost use Rattle.net.specs.Views.{drafted, SameSheet};
 ghost use Rattle.stream.specs.Streams.{opcode, parsed, decoded, size, applied, stepped, read_on, Stepped, Filled, Read};
 ghost use Rattle.stream.specs.Written.{ReadsWhatIsWritten};
 
@@ -79,7 +79,8 @@ impl Command {
 
 // Does to the draft what the command says. A match, since each kind has operands of its own; a closure for each would be made in one.
 fn apply(draft: &mut Draft<'_>, c: Command) -> Result<(), NetFault>
-    ensures { Answered result (drafted draft.new) (drafted draft.old) (applied (drafted draft.old) c) }
+    ensures exact { Answered result (drafted draft.new) (drafted draft.old) (applied (drafted draft.old) c) }
+    ensures lent { SameSheet draft.new.net draft.old.net }
 {
     match c {
         Command::Place(mark, flag) => draft.place(mark, flag.into()),
@@ -106,7 +107,8 @@ fn behind(at: Position, c: Command) -> Position
 
 // Reads and does the command at the front of the bytes, which start at the given position.
 fn step(draft: &mut Draft<'_>, bytes: &[u8], at: Position) -> Result<Command, ReadFault>
-    ensures { Stepped result (drafted draft.new) (drafted draft.old) (stepped (drafted draft.old) bytes.now at.byte at.count) }
+    ensures exact { Stepped result (drafted draft.new) (drafted draft.old) (stepped (drafted draft.old) bytes.now at.byte at.count) }
+    ensures lent { SameSheet draft.new.net draft.old.net }
 {
     let c = decode(bytes).map_err(|cause| ReadFault {
         cause,
@@ -120,7 +122,8 @@ fn step(draft: &mut Draft<'_>, bytes: &[u8], at: Position) -> Result<Command, Re
 // Each turn goes on by the length of its command, which no iterator over the bytes knows.
 fn fill(draft: &mut Draft<'_>, bytes: &[u8]) -> Result<usize, ReadFault>
     requires { sized (drafted draft.old) ≡ true }
-    ensures { Filled result (drafted draft.new) (read_on (length bytes.now) (drafted draft.old) bytes.now 0 0) }
+    ensures exact { Filled result (drafted draft.new) (read_on (length bytes.now) (drafted draft.old) bytes.now 0 0) }
+    ensures lent { SameSheet draft.new.net draft.old.net }
 {
     let mut at = Position::START;
     loop {
@@ -138,6 +141,7 @@ fn fill(draft: &mut Draft<'_>, bytes: &[u8]) -> Result<usize, ReadFault>
 pub fn read(draft: &mut Draft<'_>, bytes: &[u8]) -> Result<usize, ReadFault>
     ensures exact { Read result (drafted draft.new) (drafted draft.old) bytes.now }
     ensures honest { ReadsWhatIsWritten }
+    ensures lent { SameSheet draft.new.net draft.old.net }
 {
     at_place(draft.clear(), Position::START.origin(Layer::Net))?;
     let filled = fill(draft, bytes);

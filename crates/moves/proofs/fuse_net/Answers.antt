@@ -25,8 +25,8 @@ add_place-requires-clause-sums c =
     let b : c.args.fusion.q < 64 = omega (arith, flag_below c.args.net.now.shape.standing c.args.fusion.q c.requires.places.1.0) in
     rw (c.from.ensures, c.from-2.ensures) (sums_fit (view c.args.net.now) c.args.fusion.p c.args.fusion.q a b c.requires.sums)
 
-pub returns : goal.returns
-returns c =
+pub returns-clause-exact : goal.returns-clause-exact
+returns-clause-exact c =
     let a : c.args.fusion.p < 64 = omega (arith, flag_below c.args.net.now.shape.standing c.args.fusion.p c.requires.places.0) in
     let b : c.args.fusion.q < 64 = omega (arith, flag_below c.args.net.now.shape.standing c.args.fusion.q c.requires.places.1.0) in
     let x : Added (view c.args.net.now).sheet c.add_place.new.sheet (1 + 2 * c.args.net.now.shape.transitions) c.args.fusion.p c.args.fusion.q =
@@ -35,4 +35,4 @@ returns c =
     size_asked (view c.args.net.now) (fusing c.args.fusion.p c.args.fusion.q (view c.args.net.now)) (view c.remove_place.new.net) c.remove_place.result size
     (fused_net (view c.args.net.now) c.add_place.new.sheet c.args.fusion.p c.args.fusion.q a b (eqb-false c.args.fusion.p c.args.fusion.q c.requires.places.1.1)
     x c.remove_place.result (view c.remove_place.new.net) (omega (arith, eqb-true (length c.args.net.now.sheet.now) 12352 size))
-    c.requires.places.1.0 (rw (sym c.from-3.ensures) c.remove_place.ensures))
+    c.requires.places.1.0 (rw (sym c.from-3.ensures) c.remove_place.ensures.exact))

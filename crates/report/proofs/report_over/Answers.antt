@@ -21,4 +21,4 @@ slice_bounds-session_lines-start c =
 pub returns-in-Ok : goal.returns-in-Ok
 returns-in-Ok c =
     let w = taken_reading c.args.sheet.now c.args.input.now (drafted c.start-draft.result) (drafted c.read.new.draft) c.in-Ok.used c.requires c.start-draft.ensures.drafted c.in-Ok.ensures.exact in
-    IfOk-weaker c.session_lines.result _ _ (λ v h. read_lines v.items c.args.input.now c.in-Ok.used _ _ w c.open.ensures h) c.session_lines.ensures
+    IfOk-weaker c.session_lines.result _ _ (λ v h. read_lines v.items c.args.input.now c.in-Ok.used _ _ w c.open.ensures.exact h) c.session_lines.ensures

@@ -7,8 +7,8 @@ use Rattle.books.specs.House.{plain}
 use Rattle.books.proofs.Owning.{bytes_refused, read_own, step_done, step_refused}
 use Rattle.sets.proofs.SetsBook.take.Goals as goal
 
-pub returns-in_err-step : goal.returns-in_err-step
-returns-in_err-step c =
+pub returns-in_err-step-clause-exact : goal.returns-in_err-step-clause-exact
+returns-in_err-step-clause-exact c =
     let p = err_from_is_err_and c.from_residual-in_err-step.result c.from_residual-in_err-step.ensures.1 in
     let q = bytes_refused 0x28 0x29 (view c.args.net.now) c.args.step.now c.in_ok-check_size.ensures _ c.in_err-step.ensures in
     record { answer = p.1 ∙ rw p.2 q.answer; state = q.state }
@@ -16,8 +16,8 @@ returns-in_err-step c =
 pub check-requires : goal.check-requires
 check-requires c = read_own 0x28 0x29 c.args.step.now (plain c.in_ok-step.step) c.in_ok-step.ensures
 
-pub returns-in_err-check : goal.returns-in_err-check
-returns-in_err-check c =
+pub returns-in_err-check-clause-exact : goal.returns-in_err-check-clause-exact
+returns-in_err-check-clause-exact c =
     let p = err_from_is_err_and c.from_residual-in_err-check.result c.from_residual-in_err-check.ensures.1 in
     let q = step_refused 0x28 0x29 (view c.args.net.now) c.args.step.now c.in_ok-check_size.ensures (plain c.in_ok-step.step) c.in_ok-step.ensures _ c.in_err-check.ensures in
     record { answer = p.1 ∙ rw p.2 q.answer; state = q.state }
@@ -28,7 +28,7 @@ rewrite-requires-clause-own c = read_own 0x28 0x29 c.args.step.now (plain c.in_o
 pub rewrite-requires-clause-passes : goal.rewrite-requires-clause-passes
 rewrite-requires-clause-passes c = (passed (table (view c.args.net.now) (plain c.in_ok-step.step)) tt tt (sym c.in_ok-check.ensures)).0
 
-pub returns : goal.returns
-returns c =
+pub returns-clause-exact : goal.returns-clause-exact
+returns-clause-exact c =
     step_done 0x28 0x29 (view c.args.net.now) c.args.step.now c.in_ok-check_size.ensures (plain c.in_ok-step.step) c.in_ok-step.ensures
-    c.rewrite.result (view c.rewrite.new.net) c.in_ok-check.ensures c.rewrite.ensures
+    c.rewrite.result (view c.rewrite.new.net) c.in_ok-check.ensures c.rewrite.ensures.exact

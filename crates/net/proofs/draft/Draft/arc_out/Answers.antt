@@ -4,4 +4,4 @@ use Rattle.net.proofs.Keeps.{answered_sound}
 use Rattle.net.proofs.draft.Draft.arc_out.Goals as goal
 
 pub invariant_of-self : goal.invariant_of-self
-invariant_of-self c = record { sound = answered_sound (arc_out c.args.t c.args.p c.args.weight) _ (view c.arc.new.self) (view c.args.self.now.net) c.arc.ensures c.args.self.now.sound }
+invariant_of-self c = record { sound = answered_sound (arc_out c.args.t c.args.p c.args.weight) _ (view c.arc.new.self) (view c.args.self.now.net) c.arc.ensures.exact c.args.self.now.sound }

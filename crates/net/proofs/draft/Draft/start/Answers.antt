@@ -4,6 +4,8 @@ use Rattle.net.proofs.draft.Draft.start.Goals as goal
 pub invariant_of-result-2 : goal.invariant_of-result-2
 invariant_of-result-2 c = record { sound = bare_sound c.args.sheet.now c.prepare.new.sheet c.prepare.ensures }
 
-pub returns : goal.returns
-returns c =
-    record { drafted = started_bare c.args.sheet.now c.prepare.new.sheet c.prepare.ensures; qualities = drafts_have_qualities }
+pub returns-clause-drafted : goal.returns-clause-drafted
+returns-clause-drafted c = started_bare c.args.sheet.now c.prepare.new.sheet c.prepare.ensures
+
+pub returns-clause-qualities : goal.returns-clause-qualities
+returns-clause-qualities c = drafts_have_qualities

@@ -13,6 +13,7 @@ returns-in_err-at_place g c =
       exact = e;
       within = subst (λ r. PlaceWithin r (length c.args.bytes.now)) (sym e.answer) (fed_within m (opened c.args.self.now) c.args.bytes.now);
       faithful = faithful m g.met.B.Book.keeps;
+      lent = search rules;
     }
 
 pub returns : goal.returns
@@ -23,4 +24,5 @@ returns g c =
       exact = e;
       within = subst (λ r. PlaceWithin r (length c.args.bytes.now)) (sym e.answer) (fed_within m (opened c.args.self.now) c.args.bytes.now);
       faithful = faithful m g.met.B.Book.keeps;
+      lent = search rules;
     }

@@ -10,5 +10,5 @@ invariant_of-self g c =
     record {
       sound =
           answered_sound before (measured_sized before (sym c.check_size.ensures ∙ right)) _ (λ t. g.met.B.Book.keeps before t _) _
-          (view c.take.new.net) c.take.ensures c.args.self.now.sound;
+          (view c.take.new.net) c.take.ensures.exact c.args.self.now.sound;
     }

@@ -1,4 +1,4 @@
-use Rattle.std.proofs.Common.{sym, ◌∙◌}
+use Rattle.std.proofs.Common.{rules, sym, ◌∙◌}
 use Rattle.net.specs.States.{view}
 use Rattle.session.specs.Feeds.{meaning}
 use Rattle.session.proofs.Sounds.{placed_ok, with_place_ok, answered_sound, answered_sized}
@@ -10,7 +10,7 @@ invariant_of-self g c =
     let before = view c.args.self.now.net in
     record {
       sound =
-          answered_sound before c.requires _ (λ t. g.met.B.Book.keeps before t _) _ (view c.take.new.net) c.take.ensures
+          answered_sound before c.requires _ (λ t. g.met.B.Book.keeps before t _) _ (view c.take.new.net) c.take.ensures.exact
           c.args.self.now.sound;
     }
 
@@ -26,6 +26,7 @@ returns g c =
           step_taken (meaning g.B.Book.width_of g.B.Book.taken) last before c.args.bytes.now n c.args.at.byte c.args.at.count c.take.result
           (sym (front_by g.B.Book.width_of c.args.bytes.now c.byte_at.result c.width.result c.width.ensures c.byte_at.ensures)
           ∙ sym c.front.ensures.value ∙ there)
-          c.take.ensures took;
-      size = answered_sized before c.requires _ (λ t. g.met.B.Book.keeps before t _) _ last c.take.ensures c.args.self.now.sound;
+          c.take.ensures.exact took;
+      size = answered_sized before c.requires _ (λ t. g.met.B.Book.keeps before t _) _ last c.take.ensures.exact c.args.self.now.sound;
+      lent = search rules;
     }
