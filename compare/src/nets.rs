@@ -1,4 +1,4 @@
-//! Nets on which many steps of one kind can be taken in a row, small and full, for timing.
+//! Nets on which steps of one kind can be taken, in a row where the step allows it, small and full, for timing.
 
 use crate::plain::{PLACES, TRANSITIONS};
 

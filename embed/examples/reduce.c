@@ -57,19 +57,23 @@ static void print_steps(const puffinwire_report *report, size_t start) {
 int main(int argc, char **argv) {
     static uint8_t bytes[MOST_BYTES];
     static uint32_t sheet[PUFFINWIRE_SHEET_SIZE];
-    puffinwire_report report;
+    static puffinwire_report report;
     if (argc != 2) {
         fprintf(stderr, "usage: reduce FILE\n");
         return 2;
     }
     size_t length = read_file(argv[1], bytes);
-    puffinwire_read(bytes, length, sheet, PUFFINWIRE_SHEET_SIZE, &report);
+    if (!puffinwire_try_read(bytes, length, sheet, PUFFINWIRE_SHEET_SIZE, &report)) {
+        return 2;
+    }
     if (report.number != 0) {
         printf("net %u %zu\n", (unsigned)report.number, report.byte);
         return 1;
     }
     size_t start = report.used;
-    puffinwire_reduce(bytes, start, bytes + start, length - start, sheet, PUFFINWIRE_SHEET_SIZE, &report);
+    if (!puffinwire_try_reduce(bytes, start, bytes + start, length - start, sheet, PUFFINWIRE_SHEET_SIZE, &report)) {
+        return 2;
+    }
     print_steps(&report, start);
     print_net(&report, sheet);
     return 0;

@@ -39,15 +39,26 @@ typedef struct puffinwire_report {
     uint32_t question;    /* 1, 2 or 3 */
 } puffinwire_report;
 
+/* The layout that the library writes. Nothing else compares it with this one. */
+typedef char puffinwire_report_layout
+    [sizeof(puffinwire_report) == 64 && offsetof(puffinwire_report, used) == 0 && offsetof(puffinwire_report, taken) == 8 &&
+             offsetof(puffinwire_report, byte) == 16 && offsetof(puffinwire_report, count) == 24 &&
+             offsetof(puffinwire_report, standing) == 32 && offsetof(puffinwire_report, support) == 40 &&
+             offsetof(puffinwire_report, number) == 48 && offsetof(puffinwire_report, layer) == 52 &&
+             offsetof(puffinwire_report, transitions) == 56 && offsetof(puffinwire_report, question) == 60
+         ? 1
+         : -1];
+
 /* Reads a net stream into the sheet. A refused stream leaves the empty net; a sheet of another size than PUFFINWIRE_SHEET_SIZE is left
  * as it is.
  *
- * No pointer may be null, not even that of an empty slice, and sheet and report may not overlap with anything else that is passed.
+ * No pointer may be null, not even that of an empty slice; pointers are aligned, and the memory behind them is there and initialized,
+ * that of the report too. Sheet and report may not overlap with anything else that is passed, and nobody else uses them during the call.
  */
 void puffinwire_read(const uint8_t *net, size_t net_length, uint32_t *sheet, size_t sheet_length, puffinwire_report *report);
 
 /* Reads a net stream into the sheet, and takes steps on the net in a row until they end or one is refused. Of a refused net no step is
- * looked at. What is said of pointers above holds here too.
+ * looked at. What is said of the sheet and of pointers above holds here too.
  */
 void puffinwire_reduce(const uint8_t *net, size_t net_length, const uint8_t *steps, size_t steps_length, uint32_t *sheet,
                        size_t sheet_length, puffinwire_report *report);
@@ -59,7 +70,7 @@ static inline const uint8_t *puffinwire_bytes(const uint8_t *bytes, size_t lengt
 }
 
 /* The same calls with a test of the pointers. They answer 1 where the library was called, and 0, with nothing written, where a pointer
- * is null. A null pointer with length 0 passes as no bytes.
+ * is null. A null net or null steps with length 0 pass as no bytes; a null sheet never passes.
  */
 static inline int puffinwire_try_read(const uint8_t *net, size_t net_length, uint32_t *sheet, size_t sheet_length,
                                       puffinwire_report *report) {

@@ -83,8 +83,7 @@ fn print_row(name: &str, row: &[u64; NUMBERS], shown: &[usize]) {
 fn argument(position: usize, otherwise: u64) -> u64 {
     env::args()
         .nth(position)
-        .and_then(|text| text.parse().ok())
-        .unwrap_or(otherwise)
+        .map_or(otherwise, |text| text.parse().expect("a number"))
 }
 
 fn main() {

@@ -49,6 +49,9 @@ struct Left {
     sheet: Vec<u32>,
 }
 
+/// A call, what the proved checker left and what the plain one did.
+type Difference = (&'static str, Left, Left);
+
 /// A sheet as the case wants it, with numbers behind it that no call may touch.
 struct Sheets {
     numbers: Vec<u32>,
@@ -67,17 +70,21 @@ impl Sheets {
         }
     }
 
-    /// The call of the two whose answers differ, if there is one.
-    fn difference(&mut self, case: &Case) -> Option<(&'static str, Left, Left)> {
+    /// The steps that were taken, or the call whose answers differ.
+    fn compare(&mut self, case: &Case) -> Result<u64, Difference> {
         let Case { net, steps, .. } = case;
         let a = self.left(case, |sheet| proved(puffinwire::reduce(net, steps, sheet)));
         let b = self.left(case, |sheet| plain(plain::reduce(net, steps, sheet)));
         if a != b {
-            return Some(("reduce", a, b));
+            return Err(("reduce", a, b));
         }
+        let [_, taken, ..] = a.told;
         let a = self.left(case, |sheet| proved(puffinwire::read(net, sheet)));
         let b = self.left(case, |sheet| plain(plain::read(net, sheet)));
-        (a != b).then_some(("read", a, b))
+        if a != b {
+            return Err(("read", a, b));
+        }
+        Ok(taken)
     }
 }
 
@@ -88,7 +95,7 @@ fn hex(bytes: &[u8]) -> String {
     })
 }
 
-fn show(number: u64, case: &Case, (call, proved, plain): (&str, Left, Left)) {
+fn show(number: u64, case: &Case, (call, proved, plain): Difference) {
     println!("case {number}: {call} differs");
     println!("  net    {}", hex(&case.net));
     println!("  steps  {}", hex(&case.steps));
@@ -106,26 +113,29 @@ fn show(number: u64, case: &Case, (call, proved, plain): (&str, Left, Left)) {
 fn argument(position: usize, otherwise: u64) -> u64 {
     env::args()
         .nth(position)
-        .and_then(|text| text.parse().ok())
-        .unwrap_or(otherwise)
+        .map_or(otherwise, |text| text.parse().expect("a number"))
 }
 
 fn main() -> ExitCode {
     let cases = argument(1, 300_000);
     let seed = argument(2, 1);
+    assert!(cases > 0, "no case is no comparison");
     let mut sheets = Sheets {
         numbers: Vec::with_capacity(2 * SHEET + BEHIND),
     };
-    let mut differ = 0;
+    let (mut differ, mut taken) = (0, 0);
     for number in 0..cases {
         let case = generator::case(seed, number);
-        if let Some(difference) = sheets.difference(&case) {
-            show(number, &case, difference);
-            differ += 1;
+        match sheets.compare(&case) {
+            Ok(steps) => taken += steps,
+            Err(difference) => {
+                show(number, &case, difference);
+                differ += 1;
+            }
         }
     }
-    println!("{cases} cases of seed {seed} compared, {differ} differ");
-    if differ == 0 {
+    println!("{cases} cases of seed {seed} compared, {taken} steps taken, {differ} differ");
+    if differ == 0 && taken > 0 {
         ExitCode::SUCCESS
     } else {
         ExitCode::FAILURE

@@ -2,8 +2,9 @@
 //!
 //! usage: ratios [ROUNDS]
 //!
-//! A step's time is that of reading a net and taking steps, less that of reading the net alone, divided by the count of the steps. Of all
-//! rounds the least time counts, since whatever else the machine does can only add to it.
+//! A step's time is that of reading a net and taking steps, less that of reading the net alone, divided by the count of the steps. The
+//! times of reading a net and of a feed of 32,768 bytes are those of a whole call. Of all rounds the least time counts, since whatever
+//! else the machine does can only add to it.
 
 use std::env;
 use std::hint::black_box;
@@ -66,18 +67,33 @@ fn measure(rounds: u32, net: &[u8], steps: &[u8]) -> (Least, Least) {
     (with, without)
 }
 
+/// Both checkers take all steps of the sample, and leave the same net.
+fn try_sample(sample: &Sample) {
+    let (mut a, mut b) = (vec![0; SHEET], vec![0; SHEET]);
+    let proved = puffinwire::reduce(&sample.net, &sample.steps, &mut a);
+    let plain = plain::reduce(&sample.net, &sample.steps, &mut b);
+    let wanted = (0, sample.count);
+    assert_eq!((proved.number, proved.taken), wanted, "{}", sample.name);
+    assert_eq!((plain.number, plain.taken), wanted, "{}", sample.name);
+    assert!(a == b, "{}", sample.name);
+}
+
 fn row(name: &str, size: Size, plain: f64, proved: f64) {
     let size = match size {
         Size::Small => "small",
         Size::Full => "full",
     };
-    println!(
-        "| {name} | {size} | {plain:.0} | {proved:.0} | {:.2} |",
-        plain / proved
-    );
+    // A difference of two times that is not positive is noise.
+    let ratio = if plain > 0.0 && proved > 0.0 {
+        format!("{:.2}", plain / proved)
+    } else {
+        String::from("-")
+    };
+    println!("| {name} | {size} | {plain:.0} | {proved:.0} | {ratio} |");
 }
 
 fn step_row(rounds: u32, size: Size, sample: &Sample) {
+    try_sample(sample);
     let (with, without) = measure(rounds, &sample.net, &sample.steps);
     let count = sample.count as f64;
     let plain = (with.plain - without.plain) / count;
@@ -91,6 +107,7 @@ fn reading_row(rounds: u32, size: Size) {
 }
 
 fn feed_row(rounds: u32, size: Size, sample: &Sample) {
+    try_sample(sample);
     let (least, _) = measure(rounds, &sample.net, &sample.steps);
     let name = format!("a feed of 32,768 bytes, {}", sample.name);
     row(&name, size, least.plain, least.proved);

@@ -1,4 +1,4 @@
-// What a call tells its caller beside the numbers of the sheet. `include/puffinwire.h` declares it for C.
+// What a call tells its caller beside the numbers of the sheet. `embed/include/puffinwire.h` declares it for C, `embed/rust/src/lib.rs` for Rust.
 #[repr(C)]
 #[derive(Clone, Copy, Debug, PartialEq, Eq)]
 pub struct Report {

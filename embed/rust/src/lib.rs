@@ -147,7 +147,8 @@ pub fn read(net: &[u8], sheet: &mut [u32]) -> Report {
 
 /// Reads a net stream into the sheet, and takes steps on the net in a row until they end or one is refused.
 ///
-/// The sheet is left with the net that stands then. Of a refused net no step is looked at.
+/// The sheet is left with the net that stands then. Of a refused net no step is looked at, and the empty net is left. A sheet of another
+/// size than `SHEET_SIZE` is left as it is.
 pub fn reduce(net: &[u8], steps: &[u8], sheet: &mut [u32]) -> Report {
     let mut told = Report::default();
     // SAFETY: as in `read`.
