@@ -39,7 +39,7 @@ flag_set fs i p b h P same other = go (cases_eq p i)
     go (inr n) = rw get_or-set_other (other n)
 
 -- The empty net.
-empty_zero : (i : ℕ) → get_or empty.sheet i 0 ≡ 0
+pub empty_zero : (i : ℕ) → get_or empty.sheet i 0 ≡ 0
 empty_zero i = go (cases_lt i 12352)
   where
     go : (i < 12352) ⊎ (12352 ≤ i) → get_or empty.sheet i 0 ≡ 0

@@ -1,3 +1,5 @@
 pub mod Writes
+pub mod Tidying
+pub mod Wiping
 pub mod Tables
 pub mod Keeps

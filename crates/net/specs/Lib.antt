@@ -1,4 +1,5 @@
 pub mod Sheets
+pub mod Tidy
 pub mod Refusals
 pub mod States
 pub mod Looks

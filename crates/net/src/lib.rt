@@ -1,7 +1,7 @@
 // The net on a lent sheet: the draft that fills it, and the readings of it.
 #![tactic(auto)]
 
-ghost use Rattle.std.specs.Prelude.{◌≡◌, ◌<◌, true, false, [], length, not, position, Ok, slice_index_or};
+ghost use Rattle.std.specs.Prelude.{◌≡◌, ℕ, ◌+◌, ◌*◌, ◌<◌, ◌≤◌, true, false, [], length, not, position, Ok, slice_index, slice_index_or};
 ghost use Rattle.net.specs.declared.net.Look.TheVariants.{Mark, Support};
 ghost use Rattle.net.specs.Sheets.{base, sheet_of};
 ghost use Rattle.net.specs.Refusals.{judged, origin_at, net_told, placed};
@@ -103,12 +103,14 @@ pub fn measure(sheet: &[u32]) -> Result<(), NetFault>
     }
 }
 
-// Writes 0 everywhere. The sheet stays a slice, as it is lent: an array of it would need a case that never comes.
-fn wipe(sheet: &mut [u32])
-    requires { length sheet.old ≡ 12352 }
+// Writes 0 in the marks and the first n rows, where nothing stands behind them. The sheet stays a slice, as it is lent: an array of it
+// would need a case that never comes.
+fn wipe(sheet: &mut [u32], n: usize)
+    requires size { (length sheet.old ≡ 12352) × (n ≤ 96) }
+    requires unused { (i : ℕ) → 64 + 128 * n ≤ i → slice_index sheet.old i ≡ 0 }
     ensures { sheet.new ≡ sheet_of (λ _. 0) [] }
 {
-    sheet.fill(0);
+    sheet[..MOST_PLACES + ROW_SIZE * n].fill(0);
 }
 
 // Clears a sheet of the right size, and leaves another as it is.
@@ -116,7 +118,7 @@ fn prepare(sheet: &mut [u32])
     ensures { sheet.new ≡ (started sheet.old).sheet }
 {
     if measure(sheet).is_ok() {
-        wipe(sheet);
+        wipe(sheet, MOST_TRANSITIONS);
     }
 }
 
@@ -170,7 +172,7 @@ impl Net<'_> {
     // May a call name this transition and this place?
     pub fn check_arc(&self, t: usize, p: usize) -> Result<(), NetFault>
         ensures value { result ≡ arc_checked (view self.now) t p }
-        ensures within { result ≡ Ok tt → (length self.now.sheet.now ≡ 12352) × (t < 96) × (p < 64) }
+        ensures within { result ≡ Ok tt → (length self.now.sheet.now ≡ 12352) × (t < 96) × (t < self.now.shape.transitions) × (p < 64) }
     {
         self.check_size()?;
         if t >= self.shape.transitions {
@@ -253,7 +255,8 @@ impl Net<'_> {
 
     // Writes the weight of an arc that is not there yet.
     fn write_arc(&mut self, at: usize, weight: u32) -> Result<(), NetFault>
-        requires { at < length self.old.sheet.now }
+        requires room { at < length self.old.sheet.now }
+        requires row { at < 64 + 128 * self.old.shape.transitions }
         ensures exact { Answered result (view self.new) (view self.old) (judged (weight_checks (view self.old) at weight) (with_number (view self.old) at weight)) }
         ensures lent { SameSheet self.new self.old }
     {
@@ -297,7 +300,7 @@ impl Net<'_> {
         ensures lent { SameSheet self.new self.old }
     {
         self.check_size()?;
-        wipe(self.sheet);
+        wipe(self.sheet, self.shape.transitions);
         self.shape = EMPTY;
         Ok(())
     }

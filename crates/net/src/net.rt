@@ -1,5 +1,6 @@
 // The net's own types: what it is kept in, what it is asked, and what it refuses.
 ghost use Rattle.std.specs.Prelude.{◌≤◌};
+ghost use Rattle.net.specs.Tidy.{Tidy};
 
 use crate::MOST_PLACES;
 
@@ -28,6 +29,7 @@ pub struct Shape {
 pub struct Net<'a> {
     pub sheet: &'a mut [u32],
     pub shape: Shape,
+    ghost tidy: { Tidy sheet.now shape.transitions },
 }
 
 // The two sides of a transition: what it takes from its places, and what it puts into them.
