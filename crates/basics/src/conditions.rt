@@ -61,7 +61,7 @@ pub(crate) fn is_draining(net: &Net<'_>, t: u8) -> bool
     places().all(|p| {
         let taken = take_of(net, t, p);
         let given = put_of(net, t, p);
-        given <= taken && (!supports_at(net, p) || given == taken)
+        given <= taken && (given == taken || !supports_at(net, p))
     })
 }
 

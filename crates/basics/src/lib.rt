@@ -9,13 +9,12 @@ ghost use Rattle.net.specs.States.{view, stands};
 ghost use Rattle.basics.specs.Basics.{basic_width, basic_taken};
 ghost use Rattle.books.specs.Faults.{book_number, from_net, from_bytes, from_step};
 ghost use Rattle.books.specs.House.{plain, owns, step_of};
-ghost use Rattle.theory.specs.Rewrites.{dropping, keeping_only, leaving};
+ghost use Rattle.theory.specs.Rewrites.{leaving};
 ghost use Rattle.theory.specs.Steps.{refusal_number, table, next, drop_dominated, drop_multiple, drop_composed, drop_draining, drop_starved, keep_sourceless, remove_plentiful, remove_implied};
 ghost use Rattle.books.proofs.Housing.{house_keeps, house_refuses};
 ghost use Rattle.books.proofs.Owning.{narrow};
 
 mod conditions;
-mod kept;
 
 use books::Book;
 use books::faults::BookFault;
@@ -25,9 +24,8 @@ use conditions::{
     covers, has_always_enough, is_composed, is_dominated, is_draining, is_implied, is_multiple,
     is_sourceless, is_starved, is_unfed, never_loses,
 };
-use kept::{Only, Other};
 use net::{Net, NetFault};
-use rewrites::{keep_where, remove_place};
+use rewrites::{drop_transition, keep_only, remove_place};
 use theory::Refusal;
 
 // The questions of the step that drops a dominated transition.
@@ -176,22 +174,6 @@ fn check_implied(net: &Net<'_>, p: u8, q: u8, k: u16) -> Result<(), Refusal>
     Ok(())
 }
 
-// Drops one transition.
-fn drop_transition(net: &mut Net<'_>, t: u8) -> Result<(), NetFault>
-    ensures exact { Leaves result (view net.new) (view net.old) (dropping t (view net.old)) }
-    ensures lent { SameSheet net.new net.old }
-{
-    keep_where(net, &Other { t })
-}
-
-// Drops all transitions but one.
-fn keep_transition(net: &mut Net<'_>, t: u8) -> Result<(), NetFault>
-    ensures exact { Leaves result (view net.new) (view net.old) (keeping_only t (view net.old)) }
-    ensures lent { SameSheet net.new net.old }
-{
-    keep_where(net, &Only { t })
-}
-
 // Removes a place that stands.
 fn leave_place(net: &mut Net<'_>, p: u8) -> Result<(), NetFault>
     requires { stands (view net.old) p ≡ true }
@@ -240,8 +222,8 @@ fn rewrite(net: &mut Net<'_>, step: Step<'_>) -> Result<(), NetFault>
         | Step::DropMultiple(t, _, _)
         | Step::DropComposed(t, _, _)
         | Step::DropDraining(t)
-        | Step::DropStarved(t, _) => drop_transition(net, t),
-        Step::KeepSourceless(t) => keep_transition(net, t),
+        | Step::DropStarved(t, _) => drop_transition(net, usize::from(t)),
+        Step::KeepSourceless(t) => keep_only(net, usize::from(t)),
         Step::RemovePlentiful(p) | Step::RemoveImplied(p, _, _) => leave_place(net, p),
         _ => unreachable!(),
     }

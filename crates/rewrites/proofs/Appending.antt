@@ -1,5 +1,5 @@
 -- Rows that are written at once behind those of a sheet, of lists alone.
-use Rattle.std.proofs.Common.{rules, ◌≡◌, ℕ, zero, suc, ◌+◌, ◌*◌, ◌<◌, ◌≤◌, List, [], ◌∷◌, length, take, get_or, ap, ◌∙◌, arith, length-append}
+use Rattle.std.proofs.Common.{rules, ◌≡◌, ℕ, zero, suc, ◌+◌, ◌-◌, ◌*◌, ◌<◌, ◌≤◌, List, [], ◌∷◌, length, take, get_or, ap, ◌∙◌, arith, length-append}
 use Rattle.std.proofs.lemmas.List.{places}
 use Rattle.std.proofs.lemmas.List.Concat.{flat_map-cons, get_or-flat_map}
 use Rattle.std.specs.List.{flat_map}
@@ -42,3 +42,11 @@ appended_at xs ys bs n a k long whole room start size copied same =
   where
     written : (u j : ℕ) → u < length bs → j < 128 → get_or (put_mid a k xs ys) (64 + 128 * (n + u) + j) 0 ≡ get_or ys (128 * u + j) 0
     written u j h l = search (rules, places)
+
+-- The numbers that are written over with weights are weights.
+pub written_few : (xs ys : List ℕ) (a k i : ℕ) → ((j : ℕ) → get_or ys j 0 ≤ 65535) → length ys ≡ k → a ≤ i → i < a + k → a + k ≤ length xs
+    → get_or (put_mid a k xs ys) i 0 ≤ 65535
+written_few xs ys a k i few same l h room = omega (arith, at, few (i - a))
+  where
+    at : get_or (put_mid a k xs ys) i 0 ≡ get_or ys (i - a) 0
+    at = search (rules, places)

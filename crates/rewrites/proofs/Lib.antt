@@ -2,9 +2,9 @@ pub mod Appending
 pub mod Closing
 pub mod Keeping
 mod Limiting
-mod Marking
+pub mod Marking
+pub mod Sized
+pub mod Kept
 pub mod Those
-mod Wiping
-mod Writing
 pub mod Parts
 pub mod Reading

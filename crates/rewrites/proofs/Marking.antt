@@ -1,30 +1,27 @@
 -- A sheet with new marks in front of its rows.
-use Rattle.std.proofs.Common.{◌≡◌, ℕ, ◌+◌, ◌-◌, ◌*◌, ◌<◌, ◌≤◌, List, ◌++◌, length, drop, get_or, sym, ap, ◌∙◌, arith}
-use Rattle.std.proofs.lemmas.List.{get_or_append_left, get_or-append_right, get_or-drop}
+use Rattle.std.proofs.Common.{◌≡◌, ℕ, ◌+◌, ◌*◌, ◌<◌, ◌≤◌, List, length, get_or, sym, ap, ◌∙◌, arith}
 use Rattle.std.proofs.lemmas.List.FromFn.{length-map-range_with_len, get_or-map-range_with_len}
 use Rattle.net.specs.Sheets.{Row, no_row, row_at, rows_in, number, sheet_of}
+use Rattle.net.specs.Tidy.{Tidied}
 use Rattle.theory.proofs.Listed.{sheet_from}
 use Rattle.rewrites.proofs.Closing.{row_numbers}
 
-module _ (n : ℕ) (xs : List ℕ) where
-  pub length_rows_in : length (rows_in xs n) ≡ n
-  length_rows_in = length-map-range_with_len (row_at xs) 0 n
+pub length_rows_in : (xs : List ℕ) (n : ℕ) → length (rows_in xs n) ≡ n
+length_rows_in xs n = length-map-range_with_len (row_at xs) 0 n
 
-  -- What has the marks in front, the rows as they were, and 0 past them, is the sheet of these marks and rows.
-  module _ (ms front zs : List ℕ) (copied : front ≡ ms) (long : length ms ≡ 64) (whole : length zs ≡ 12352)
-      (before : (i : ℕ) → i < 64 + 128 * n → get_or zs i 0 ≡ get_or (front ++ drop 64 xs) i 0) (after : (i : ℕ) → 64 + 128 * n ≤ i → get_or zs i 0 ≡ 0) where
-    size : length front ≡ 64
-    size = ap length copied ∙ long
+-- What has the marks in front, and all else as a tidy sheet, is the sheet of these marks and its rows.
+module _ (n : ℕ) (xs ms ys : List ℕ) (tidied : Tidied xs n) (whole : length ys ≡ 12352)
+    (front : (p : ℕ) → p < 64 → get_or ys p 0 ≡ get_or ms p 0) (same : (i : ℕ) → 64 ≤ i → get_or ys i 0 ≡ get_or xs i 0) where
+  pub marked_tidy : Tidied ys n
+  marked_tidy =
+      record { unused = λ i h. same i (omega arith) ∙ tidied.unused i h; weights = λ i h. omega (arith, same i h, tidied.weights i h) }
 
-    marked : (q : ℕ) → q < 64 → get_or zs q 0 ≡ get_or ms q 0
-    marked q h = before q (omega arith) ∙ get_or_append_left front (drop 64 xs) 0 q (omega (arith, size)) ∙ ap (λ l. get_or l q 0) copied
+  rowed : (t j : ℕ) → t < length (rows_in xs n) → j < 128 → get_or ys (64 + 128 * t + j) 0 ≡ number (get_or (rows_in xs n) t no_row) j
+  rowed t j h b =
+      same (64 + 128 * t + j) (omega arith) ∙ row_numbers xs t j b
+      ∙ ap (λ (r : Row). number r j) (sym (get_or-map-range_with_len (row_at xs) 0 n t t no_row (omega (arith, length_rows_in xs n)) (omega arith)))
 
-    rowed : (t j : ℕ) → t < length (rows_in xs n) → j < 128 → get_or zs (64 + 128 * t + j) 0 ≡ number (get_or (rows_in xs n) t no_row) j
-    rowed t j h b =
-        let l : t < n = omega (arith, length_rows_in) in
-        before (64 + 128 * t + j) (omega arith) ∙ get_or-append_right front (drop 64 xs) 64 (64 + 128 * t + j) 0 size (omega arith)
-        ∙ get_or-drop 64 xs (64 + 128 * t + j - 64) 0 ∙ ap (λ i. get_or xs i 0) (omega arith) ∙ row_numbers xs t j b
-        ∙ ap (λ (r : Row). number r j) (sym (get_or-map-range_with_len (row_at xs) 0 n t t no_row l (omega arith)))
-
-    pub marked_all : zs ≡ sheet_of (λ p. get_or ms p 0) (rows_in xs n)
-    marked_all = sheet_from zs (λ p. get_or ms p 0) (rows_in xs n) whole marked rowed (λ i h b. after i (omega (arith, length_rows_in)))
+  pub marked_all : ys ≡ sheet_of (λ p. get_or ms p 0) (rows_in xs n)
+  marked_all =
+      sheet_from ys (λ p. get_or ms p 0) (rows_in xs n) whole front rowed
+      (λ i h b. same i (omega arith) ∙ tidied.unused i (omega (arith, h, length_rows_in xs n)))

@@ -1,8 +1,16 @@
 -- The numbers of which a test holds, one by one.
-use Rattle.std.proofs.Common.{◌≡◌, ℕ, zero, suc, ◌+◌, ◌<◌, ◌≤◌, Bool, true, false, cond, List, [], ◌∷◌, map, length, get_or, filter, refl, ap, ◌∙◌, arith}
-use Rattle.std.specs.List.{range_with_len, enumerate_from}
-use Rattle.std.proofs.lemmas.List.FromFn.{length-enumerate_from, get_or-enumerate_from}
+use Rattle.std.proofs.Common.{◌≡◌, ℕ, zero, suc, ◌+◌, ◌-◌, ◌<◌, ◌≤◌, Bool, true, false, cond, not, eqb, List, [], ◌∷◌, ◌++◌, length, get_or, filter, refl, ap, ◌∙◌, arith}
+use Rattle.std.proofs.lemmas.Bool.{ne_eqb, eq-eqb}
+use Rattle.std.proofs.lemmas.List.Elements.{filter-append}
+use Rattle.std.specs.List.{range_with_len}
 use Rattle.theory.specs.Tests.{those}
+
+-- A range in two parts.
+ranges : (a m n b : ℕ) → b ≡ a + m → range_with_len a (m + n) ≡ range_with_len a m ++ range_with_len b n
+ranges a zero n b e = ap (range_with_len a) (omega arith) ∙ ap (λ c. range_with_len c n) (omega arith)
+ranges a (suc m) n b e =
+    let more : suc m + n ≡ suc (m + n) = omega arith in
+    ap (range_with_len a) more ∙ ap (λ l. a ∷ l) (ranges (a + 1) m n b (omega arith))
 
 module _ (keep : ℕ → Bool) where
   -- Such a number of a range is within it, and not before its place among them.
@@ -25,17 +33,60 @@ module _ (keep : ℕ → Bool) where
       → (k ≤ get_or (those keep n) k d) × (get_or (those keep n) k d < n) × (keep (get_or (those keep n) k d) ≡ true)
   those_at n k d h = let x = filter_at n 0 k d h in (omega (arith, x.0), omega (arith, x.1), x.2)
 
-  -- An item of the numbered list of them.
-  pub numbered_at : (n k to t : ℕ) → (k < length (enumerate_from 0 (those keep n))) × ((to, t) ≡ get_or (enumerate_from 0 (those keep n)) k (to, t))
-      → (to ≡ k) × (k ≤ t) × (t < n)
-  numbered_at n k to t x =
-      let h : k < length (those keep n) = omega (arith, x.0, length-enumerate_from 0 (those keep n)) in
-      let e = x.1 ∙ get_or-enumerate_from 0 (those keep n) k (to, t) h in
-      let same : t ≡ get_or (those keep n) k t = ap (λ (p : ℕ × ℕ). p.1) e in
-      let y = those_at n k t h in
-      (ap (λ (p : ℕ × ℕ). p.0) e ∙ omega arith, omega (arith, y.0, same), omega (arith, y.1, same))
+  -- One number more.
+  pub those_more : (n : ℕ) → those keep (n + 1) ≡ those keep n ++ cond (keep n) (n ∷ []) []
+  those_more n = ap (filter keep) (ranges 0 n 1 n (omega arith)) ∙ filter-append keep (range_with_len 0 n) (n ∷ [])
 
--- A numbered list, without the numbers.
-pub numbered : {X : Type 0} (l : List X) (k : ℕ) → map (λ (p : ℕ × X). p.1) (enumerate_from k l) ≡ l
-numbered [] k = refl
-numbered (x ∷ xs) k = ap (λ l. x ∷ l) (numbered xs (k + 1))
+  -- Where the test holds everywhere, and where nowhere.
+  all_of : (n a : ℕ) → ((v : ℕ) → a ≤ v → v < a + n → keep v ≡ true) → filter keep (range_with_len a n) ≡ range_with_len a n
+  all_of zero a h = refl
+  all_of (suc n) a h =
+      ap (λ (b : Bool). cond b (a ∷ filter keep (range_with_len (a + 1) n)) (filter keep (range_with_len (a + 1) n))) (h a (omega arith) (omega arith))
+      ∙ ap (λ (l : List ℕ). a ∷ l) (all_of n (a + 1) (λ v p q. h v (omega arith) (omega arith)))
+
+  none_of : (n a : ℕ) → ((v : ℕ) → a ≤ v → v < a + n → keep v ≡ false) → filter keep (range_with_len a n) ≡ []
+  none_of zero a h = refl
+  none_of (suc n) a h =
+      ap (λ (b : Bool). cond b (a ∷ filter keep (range_with_len (a + 1) n)) (filter keep (range_with_len (a + 1) n))) (h a (omega arith) (omega arith))
+      ∙ none_of n (a + 1) (λ v p q. h v (omega arith) (omega arith))
+
+-- All numbers but one, and this one alone.
+module _ (t n : ℕ) where
+  module _ (h : t < n) where
+    abbrev behind : List ℕ
+    behind = range_with_len (t + 1) (n - (t + 1))
+
+    apart : range_with_len 0 n ≡ range_with_len 0 t ++ t ∷ behind
+    apart = ap (range_with_len 0) (omega arith) ∙ ranges 0 t (suc (n - (t + 1))) t (omega arith)
+
+    pub those_others : those (λ v. not (eqb v t)) n ≡ range_with_len 0 t ++ behind
+    those_others =
+        ap (filter (λ v. not (eqb v t))) apart ∙ filter-append (λ v. not (eqb v t)) (range_with_len 0 t) (t ∷ behind)
+        ∙ (λ i. front i ++ rest i)
+      where
+        front : filter (λ v. not (eqb v t)) (range_with_len 0 t) ≡ range_with_len 0 t
+        front = all_of (λ v. not (eqb v t)) t 0 (λ v _ l. ap not (ne_eqb v t (λ e. absurd (omega arith))))
+
+        rest : filter (λ v. not (eqb v t)) (t ∷ behind) ≡ behind
+        rest =
+            ap (λ (b : Bool). cond b (t ∷ filter (λ v. not (eqb v t)) behind) (filter (λ v. not (eqb v t)) behind)) (ap not (eq-eqb t t refl))
+            ∙ all_of (λ v. not (eqb v t)) (n - (t + 1)) (t + 1) (λ v g _. ap not (ne_eqb v t (λ e. absurd (omega arith))))
+
+    pub those_same : those (λ v. eqb v t) n ≡ t ∷ []
+    those_same =
+        ap (filter (λ v. eqb v t)) apart ∙ filter-append (λ v. eqb v t) (range_with_len 0 t) (t ∷ behind) ∙ (λ i. front i ++ rest i)
+      where
+        front : filter (λ v. eqb v t) (range_with_len 0 t) ≡ []
+        front = none_of (λ v. eqb v t) t 0 (λ v _ l. ne_eqb v t (λ e. absurd (omega arith)))
+
+        rest : filter (λ v. eqb v t) (t ∷ behind) ≡ t ∷ []
+        rest =
+            ap (λ (b : Bool). cond b (t ∷ filter (λ v. eqb v t) behind) (filter (λ v. eqb v t) behind)) (eq-eqb t t refl)
+            ∙ ap (λ (l : List ℕ). t ∷ l) (none_of (λ v. eqb v t) (n - (t + 1)) (t + 1) (λ v g _. ne_eqb v t (λ e. absurd (omega arith))))
+
+  module _ (g : n ≤ t) where
+    pub those_all : those (λ v. not (eqb v t)) n ≡ range_with_len 0 n
+    those_all = all_of (λ v. not (eqb v t)) n 0 (λ v _ l. ap not (ne_eqb v t (λ e. absurd (omega arith))))
+
+    pub those_none : those (λ v. eqb v t) n ≡ []
+    those_none = none_of (λ v. eqb v t) n 0 (λ v _ l. ne_eqb v t (λ e. absurd (omega arith)))

@@ -15,7 +15,7 @@ use net::{Net, Side};
 fn touches(net: &Net<'_>, side: Side, set: &[u8; 8], t: u8) -> bool
     ensures { result ≡ touches? side (view net.now) (member set.now) t }
 {
-    places().any(|p| is_member(set, p) && weight_of(net, side, t, p) > 0)
+    places().any(|p| weight_of(net, side, t, p) > 0 && is_member(set, p))
 }
 
 // Does t take from outside the set? This stays apart: a closure or a flag for inside and outside would have to stand in the contract of one
@@ -24,7 +24,7 @@ fn touches(net: &Net<'_>, side: Side, set: &[u8; 8], t: u8) -> bool
 fn takes_outside(net: &Net<'_>, set: &[u8; 8], t: u8) -> bool
     ensures { result ≡ takes_from? (view net.now) (outside (member set.now)) t }
 {
-    places().any(|p| !is_member(set, p) && take_of(net, t, p) > 0)
+    places().any(|p| take_of(net, t, p) > 0 && !is_member(set, p))
 }
 
 // Do all places of the set stand?
@@ -32,7 +32,7 @@ fn takes_outside(net: &Net<'_>, set: &[u8; 8], t: u8) -> bool
 pub(crate) fn members_stand(net: &Net<'_>, set: &[u8; 8]) -> bool
     ensures { result ≡ members_stand? (view net.now) (member set.now) }
 {
-    places().all(|p| !is_member(set, p) || stands_at(net, p))
+    places().all(|p| stands_at(net, p) || !is_member(set, p))
 }
 
 // Is there a place in the set?
@@ -56,7 +56,7 @@ pub(crate) fn is_siphon(net: &Net<'_>, set: &[u8; 8]) -> bool
 pub(crate) fn is_dry(net: &Net<'_>, set: &[u8; 8]) -> bool
     ensures { result ≡ dry? (view net.now) (member set.now) }
 {
-    places().all(|p| !is_member(set, p) || mark_of(net, p) == 0)
+    places().all(|p| mark_of(net, p) == 0 || !is_member(set, p))
 }
 
 // Is every place of the support in the set?
@@ -75,7 +75,7 @@ fn falls(net: &Net<'_>, set: &[u8; 8], t: u8) -> bool
     places().all(|p| {
         let taken = take_of(net, t, p);
         let given = put_of(net, t, p);
-        (!is_member(set, p) || given <= taken) && (!supports_at(net, p) || given == taken)
+        (given <= taken || !is_member(set, p)) && (given == taken || !supports_at(net, p))
     })
 }
 

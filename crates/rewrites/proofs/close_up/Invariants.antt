@@ -1,7 +1,6 @@
-use Rattle.std.proofs.Common.{ℕ, map}
-use Rattle.rewrites.specs.Rows.{Closed}
+use Rattle.std.proofs.Common.{false, get_or}
+use Rattle.rewrites.proofs.Closing.{Turned}
 use Rattle.rewrites.proofs.close_up.Given as goal
 
-abbrev pub invariant-loop-to : goal.invariant-loop-to
-invariant-loop-to l =
-    Closed l.initial.sheet l.sheet (map (λ (p : ℕ × ℕ). p.1) l.yielded)
+abbrev pub invariant-loop-t : goal.invariant-loop-t
+invariant-loop-t l = Turned (λ t. get_or l.keep t false) l.initial.sheet l.sheet l.kept l.t

@@ -1,12 +1,14 @@
-use Rattle.std.proofs.Common.{rules, get_or}
-use Rattle.net.specs.Sheets.{rows_in, sheet_of}
-use Rattle.rewrites.proofs.Marking.{marked_all}
-use Rattle.rewrites.proofs.Writing.{rewrote}
+use Rattle.std.proofs.Common.{◌-◌, ◌∙◌, length, drop, get_or, sym, ap, arith}
+use Rattle.std.proofs.lemmas.List.{get_or-append_right, get_or-drop, length-take-le}
 use Rattle.rewrites.proofs.marks.mark_rows.Goals as goal
 
-pub returns-clause-sheet : goal.returns-clause-sheet
-returns-clause-sheet c =
-    rewrote c.args.sheet.now c.in_ok-sheet.sheet.now c.wipe_after.new.sheet
-    (λ xs. sheet_of (λ p. get_or c.args.marks.now p 0) (rows_in xs c.args.shape.now.transitions)) (search rules) (search rules)
-    (marked_all c.args.shape.now.transitions c.in_ok-sheet.sheet.now c.args.marks.now c.copy_from_slice.new.self c.wipe_after.new.sheet
-    c.copy_from_slice.ensures.after c.told-marks c.wipe_after.ensures.size c.wipe_after.ensures.before c.wipe_after.ensures.after)
+pub slice_bounds-copy_from_slice-end-2 : goal.slice_bounds-copy_from_slice-end-2
+slice_bounds-copy_from_slice-end-2 c = sym (length-take-le 64 c.args.sheet.now (omega (arith, c.requires)))
+
+pub copy_from_slice-requires : goal.copy_from_slice-requires
+copy_from_slice-requires c = length-take-le 64 c.args.sheet.now (omega (arith, c.requires)) ∙ sym c.told-marks
+
+pub returns-clause-rows : goal.returns-clause-rows
+returns-clause-rows c = λ i h.
+    get_or-append_right c.copy_from_slice.new.self (drop 64 c.args.sheet.now) 64 i 0 (ap length c.copy_from_slice.ensures.after ∙ c.told-marks) h
+    ∙ get_or-drop 64 c.args.sheet.now (i - 64) 0 ∙ ap (λ j. get_or c.args.sheet.now j 0) (omega arith)
