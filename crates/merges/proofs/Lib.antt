@@ -1,3 +1,4 @@
 pub mod Alone
 pub mod Judging
 pub mod Limits
+pub mod Weights

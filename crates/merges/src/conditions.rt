@@ -1,15 +1,13 @@
 // The conditions of the third house book's steps, each by the name of its definition.
 ghost use Rattle.std.specs.Prelude.{◌≡◌, not, ◌&&◌, nat_eq, nat_lt, ◌==◌, ◌%◌};
 ghost use Rattle.net.specs.States.{view, in_support, take, put};
-ghost use Rattle.products.specs.Products.{product_row};
-ghost use Rattle.theory.specs.Tests.{◌⇒◌, every_place, every_transition, some_place, first, feeder?, consumer?, two_sided?, post_consumers?, first_weight, one_consumer?, all_equal?, post_weights?, free_feeders?, pre_feeders?, free_consumers?, products_fit?, rest_fits?};
+ghost use Rattle.theory.specs.Tests.{◌⇒◌, every_place, every_transition, some_place, first, feeder?, consumer?, two_sided?, post_consumers?, post_weights?, free_feeders?, pre_feeders?, free_consumers?};
 
 use checks::{
-    OnlyConsumer, Source, Touches, every, first, places, put_of, rest_fits, some, spares_support,
-    take_of, touches_only, transitions,
+    OnlyConsumer, Source, Touches, every, first, places, put_of, some, spares_support, take_of,
+    touches_only, transitions,
 };
 use net::{Net, Side};
-use products::{Kind, products_fit};
 
 // Is no transition both a feeder and a consumer of p?
 #[tactic(auto, unfolding(theory::specs::Tests::every))]
@@ -62,13 +60,6 @@ fn first_consumer(net: &Net<'_>, p: u8) -> u8
     first(net, &consumes).unwrap_or(transitions(net).end)
 }
 
-// What the first consumer takes from p.
-fn weight_at(net: &Net<'_>, p: u8) -> u32
-    ensures { result ≡ first_weight (view net.now) p }
-{
-    take_of(net, first_consumer(net, p), p)
-}
-
 // Is each feeder's weight at p a multiple of this one?
 #[tactic(auto, unfolding(theory::specs::Tests::every))]
 fn are_multiples(net: &Net<'_>, p: u8, weight: u32) -> bool
@@ -80,15 +71,11 @@ fn are_multiples(net: &Net<'_>, p: u8, weight: u32) -> bool
     })
 }
 
-// Has p one consumer, and is every feeder's weight at p a multiple of that consumer's?
-fn has_one_consumer(net: &Net<'_>, p: u8) -> bool
-    ensures { result ≡ one_consumer? (view net.now) p }
+// Is f the only consumer of p, and every feeder's weight at p a multiple of this one?
+fn has_one_consumer(net: &Net<'_>, p: u8, f: u8, weight: u32) -> bool
+    ensures { result ≡ (every_transition (view net.now) (λ t. consumer? (view net.now) p t ⇒ nat_eq t f) && every_transition (view net.now) (λ h. feeder? (view net.now) p h ⇒ nat_eq (put (view net.now) h p % weight) 0)) }
 {
-    let only = OnlyConsumer {
-        p,
-        t: first_consumer(net, p),
-    };
-    every(net, &only) && are_multiples(net, p, weight_at(net, p))
+    every(net, &OnlyConsumer { p, t: f }) && are_multiples(net, p, weight)
 }
 
 // Are all weights at p this one?
@@ -103,18 +90,13 @@ fn have_weight(net: &Net<'_>, p: u8, weight: u32) -> bool
     })
 }
 
-// Are all weights at p equal?
-fn are_all_equal(net: &Net<'_>, p: u8) -> bool
-    ensures { result ≡ all_equal? (view net.now) p }
-{
-    have_weight(net, p, weight_at(net, p))
-}
-
-// Post-agglomeration, on weights: a consumer uses all that a feeder brings.
+// Post-agglomeration, on weights: a consumer uses all that a feeder brings, if it is the only one, or if all weights at p are equal.
 pub(crate) fn are_post_weights(net: &Net<'_>, p: u8) -> bool
     ensures { result ≡ post_weights? (view net.now) p }
 {
-    has_one_consumer(net, p) || are_all_equal(net, p)
+    let f = first_consumer(net, p);
+    let weight = take_of(net, f, p);
+    has_one_consumer(net, p, f, weight) || have_weight(net, p, weight)
 }
 
 // If h is a feeder of p: does it put 1 into p and nothing elsewhere, and take from no support place?
@@ -172,11 +154,4 @@ pub(crate) fn are_free_consumers(net: &Net<'_>, p: u8) -> bool
     ensures { result ≡ free_consumers? (view net.now) p }
 {
     transitions(net).all(|f| take_of(net, f, p) <= 1)
-}
-
-// Are the numbers that an agglomeration leaves within their limits, and the products?
-pub(crate) fn merging_fits(net: &Net<'_>, kind: Kind, p: u8) -> bool
-    ensures { result ≡ (rest_fits? (view net.now) p && products_fit? (view net.now) p (product_row kind (view net.now) p)) }
-{
-    rest_fits(net, p) && products_fit(net, kind, p)
 }

@@ -1,17 +1,18 @@
 // The third house book: agglomerations, which merge the feeders and the consumers of a place.
 #![tactic(auto)]
 
-ghost use Rattle.std.specs.Prelude.{◌≡◌, true, refl};
+ghost use Rattle.std.specs.Prelude.{◌≡◌, ℕ, true, length, nat_le, refl};
 ghost use Rattle.net.specs.Views.{SameSheet};
 ghost use Rattle.net.specs.Refusals.{judged, Passes};
-ghost use Rattle.net.specs.Looks.{Leaves};
-ghost use Rattle.net.specs.States.{view};
+ghost use Rattle.net.specs.Sheets.{Row, mark_at, most_mark};
+ghost use Rattle.net.specs.States.{view, Answered};
 ghost use Rattle.books.specs.Faults.{book_number, from_net, from_bytes, from_step};
 ghost use Rattle.books.specs.House.{plain, owns, step_of};
-ghost use Rattle.merges.specs.Merges.{merge_width, merge_taken, first_lines, last_lines};
+ghost use Rattle.merges.specs.Merges.{merge_width, merge_taken, first_lines, count_lines, last_lines, post_lines, pre_lines, free_lines, limited};
 ghost use Rattle.products.specs.Products.{product_row};
 ghost use Rattle.theory.specs.Rewrites.{merging};
-ghost use Rattle.theory.specs.Steps.{refusal_number, table, next, merge_checks, post_agglomerate, pre_agglomerate, free_agglomerate};
+ghost use Rattle.theory.specs.Tests.{every_place, rest_fits?};
+ghost use Rattle.theory.specs.Steps.{refusal_number, step as judged_step, post_agglomerate, pre_agglomerate, free_agglomerate};
 ghost use Rattle.books.proofs.Housing.{house_keeps, house_refuses};
 ghost use Rattle.books.proofs.Owning.{narrow};
 
@@ -23,10 +24,10 @@ use books::step::{Owned, Step};
 use checks::{is_reach_only, mark_of, stands_at, supports_at};
 use conditions::{
     are_free_consumers, are_free_feeders, are_post_consumers, are_post_weights, are_pre_feeders,
-    is_two_sided, merging_fits,
+    is_two_sided,
 };
-use net::{MOST_TRANSITIONS, Net, NetFault};
-use products::{Kind, MOST_PRODUCTS, merge, pair_count, row_count};
+use net::{MOST_TRANSITIONS, Net};
+use products::{Kind, MOST_PRODUCTS, merge, pair_count, rest_count};
 use theory::Refusal;
 
 // The first questions of an agglomeration: p stands, is outside the support, and has feeders and consumers that are apart.
@@ -45,28 +46,27 @@ fn check_place(net: &Net<'_>, p: u8) -> Result<(), Refusal>
     Ok(())
 }
 
-// The last questions of an agglomeration: the mark of p, the number of products, the transitions afterwards, and the limits.
-fn check_products(net: &Net<'_>, kind: Kind, p: u8) -> Result<(), Refusal>
-    ensures { result ≡ judged (last_lines (view net.now) p (merging (product_row kind (view net.now) p) p (view net.now))) tt }
+// The last questions of an agglomeration before its products: the mark of p, their number, and the transitions afterwards.
+fn check_counts(net: &Net<'_>, p: u8) -> Result<(), Refusal>
+    ensures { (product : ℕ → ℕ → Row) → result ≡ judged (last_lines (view net.now) p (merging product p (view net.now))) tt }
 {
     if mark_of(net, p) > 0 {
         return Err(Refusal::Marks);
     }
-    if pair_count(net, p) > MOST_PRODUCTS {
+    let pairs = pair_count(net, p);
+    if pairs > MOST_PRODUCTS {
         return Err(Refusal::TooManyPairs);
     }
-    if row_count(net, p) > MOST_TRANSITIONS {
+    if rest_count(net, p) + pairs > MOST_TRANSITIONS {
         return Err(Refusal::TooManyRows);
-    }
-    if !merging_fits(net, kind, p) {
-        return Err(Refusal::PastLimit);
     }
     Ok(())
 }
 
-// The questions of post-agglomeration. Here and below each line of the table has an `if` of its own, though one number refuses several.
+// The questions of post-agglomeration before its products. Here and below each line of the table has an `if` of its own, though one
+// number refuses several.
 fn check_post(net: &Net<'_>, p: u8) -> Result<(), Refusal>
-    ensures { result ≡ judged (table (view net.now) (post_agglomerate p)) tt }
+    ensures { result ≡ judged (post_lines (view net.now) p) tt }
 {
     check_place(net, p)?;
     if !are_post_consumers(net, p) {
@@ -75,12 +75,12 @@ fn check_post(net: &Net<'_>, p: u8) -> Result<(), Refusal>
     if !are_post_weights(net, p) {
         return Err(Refusal::Arcs);
     }
-    check_products(net, Kind::Post, p)
+    check_counts(net, p)
 }
 
-// The questions of pre-agglomeration.
+// The questions of pre-agglomeration before its products.
 fn check_pre(net: &Net<'_>, p: u8) -> Result<(), Refusal>
-    ensures { result ≡ judged (table (view net.now) (pre_agglomerate p)) tt }
+    ensures { result ≡ judged (pre_lines (view net.now) p) tt }
 {
     check_place(net, p)?;
     if !are_free_feeders(net, p) || !are_pre_feeders(net, p) {
@@ -89,12 +89,12 @@ fn check_pre(net: &Net<'_>, p: u8) -> Result<(), Refusal>
     if !are_free_consumers(net, p) {
         return Err(Refusal::Arcs);
     }
-    check_products(net, Kind::Pre, p)
+    check_counts(net, p)
 }
 
-// The questions of free agglomeration.
+// The questions of free agglomeration before its products.
 fn check_free(net: &Net<'_>, p: u8) -> Result<(), Refusal>
-    ensures { result ≡ judged (table (view net.now) (free_agglomerate p)) tt }
+    ensures { result ≡ judged (free_lines (view net.now) p) tt }
 {
     if !is_reach_only(net) {
         return Err(Refusal::NotServed);
@@ -106,16 +106,63 @@ fn check_free(net: &Net<'_>, p: u8) -> Result<(), Refusal>
     if !are_free_consumers(net, p) {
         return Err(Refusal::Arcs);
     }
-    check_products(net, Kind::Pre, p)
+    check_counts(net, p)
 }
 
-// Replaces the feeders and consumers of p by their products, where the last questions have passed.
-fn merge_products(net: &mut Net<'_>, kind: Kind, p: u8) -> Result<(), NetFault>
-    requires { Passes (merge_checks (view net.old) p (merging (product_row kind (view net.old) p) p (view net.old))) }
-    ensures exact { Leaves result (view net.new) (view net.old) (merging (product_row kind (view net.old) p) p (view net.old)) }
+// The marks of a sheet are within their limit, as numbers of 32 bits: nothing is asked of them. It is a call, since that a number has
+// 32 bits is known of a slice that is passed, and not of the sheet inside a net.
+fn marks_fit(sheet: &[u32])
+    ensures { every_place (λ p. nat_le (mark_at sheet.now p) most_mark) ≡ true }
+{}
+
+// The numbers that an agglomeration leaves as they are keep within their limits, since the sheet is tidy: nothing is asked of them.
+fn rest_fits(net: &Net<'_>, p: u8)
+    requires { length net.now.sheet.now ≡ 12352 }
+    ensures { rest_fits? (view net.now) p ≡ true }
+{
+    marks_fit(net.sheet);
+}
+
+// Replaces the feeders and consumers of p by their products, where the questions before have passed. The last question of the tables,
+// whether all numbers are within their limits afterwards, is answered by the merge: on a tidy sheet only a product may be past them.
+fn merge_products(net: &mut Net<'_>, kind: Kind, p: u8) -> Result<(), Refusal>
+    requires size { length net.old.sheet.now ≡ 12352 }
+    requires counts { Passes (count_lines (view net.old) p (merging (product_row kind (view net.old) p) p (view net.old))) }
+    ensures exact { Answered result (view net.new) (view net.old) (limited (merging (product_row kind (view net.old) p) p (view net.old))) }
     ensures lent { SameSheet net.new net.old }
 {
-    merge(net, kind, p)
+    rest_fits(net, p);
+    merge(net, kind, p).map_err(|_| Refusal::PastLimit)
+}
+
+// Post-agglomeration.
+fn merge_post(net: &mut Net<'_>, p: u8) -> Result<(), Refusal>
+    requires { length net.old.sheet.now ≡ 12352 }
+    ensures exact { Answered result (view net.new) (view net.old) (judged_step (view net.old) (post_agglomerate p)) }
+    ensures lent { SameSheet net.new net.old }
+{
+    check_post(net, p)?;
+    merge_products(net, Kind::Post, p)
+}
+
+// Pre-agglomeration.
+fn merge_pre(net: &mut Net<'_>, p: u8) -> Result<(), Refusal>
+    requires { length net.old.sheet.now ≡ 12352 }
+    ensures exact { Answered result (view net.new) (view net.old) (judged_step (view net.old) (pre_agglomerate p)) }
+    ensures lent { SameSheet net.new net.old }
+{
+    check_pre(net, p)?;
+    merge_products(net, Kind::Pre, p)
+}
+
+// Free agglomeration.
+fn merge_free(net: &mut Net<'_>, p: u8) -> Result<(), Refusal>
+    requires { length net.old.sheet.now ≡ 12352 }
+    ensures exact { Answered result (view net.new) (view net.old) (judged_step (view net.old) (free_agglomerate p)) }
+    ensures lent { SameSheet net.new net.old }
+{
+    check_free(net, p)?;
+    merge_products(net, Kind::Pre, p)
 }
 
 // The first bytes that this book owns.
@@ -126,30 +173,17 @@ const OWNED: Owned = Owned {
     last: 0x2c,
 };
 
-// The questions of a step of this book. A match here and in the rewrite: each step has operands of its own, and a closure for each would
-// be made in a match. Both ask that the step is the book's own, since one type of steps serves all books.
-fn check(net: &Net<'_>, step: Step<'_>) -> Result<(), Refusal>
-    requires { owns merge_width (plain step) ≡ true }
-    ensures { result ≡ judged (table (view net.now) (plain step.entry)) tt }
-{
-    match step {
-        Step::PostAgglomerate(p) => check_post(net, p),
-        Step::PreAgglomerate(p) => check_pre(net, p),
-        Step::FreeAgglomerate(p) => check_free(net, p),
-        _ => unreachable!(),
-    }
-}
-
-// Takes a step of this book whose questions have passed.
-fn rewrite(net: &mut Net<'_>, step: Step<'_>) -> Result<(), NetFault>
+// Takes a step of this book, or refuses it. It asks that the step is the book's own, since one type of steps serves all books.
+fn merge_by(net: &mut Net<'_>, step: Step<'_>) -> Result<(), Refusal>
+    requires size { length net.old.sheet.now ≡ 12352 }
     requires own { owns merge_width (plain step) ≡ true }
-    requires passes { Passes (table (view net.old) (plain step)) }
-    ensures exact { Leaves result (view net.new) (view net.old) (next (view net.old) (plain step.entry)) }
+    ensures exact { Answered result (view net.new) (view net.old) (judged_step (view net.old) (plain step.entry)) }
     ensures lent { SameSheet net.new net.old }
 {
     match step {
-        Step::PostAgglomerate(p) => merge_products(net, Kind::Post, p),
-        Step::PreAgglomerate(p) | Step::FreeAgglomerate(p) => merge_products(net, Kind::Pre, p),
+        Step::PostAgglomerate(p) => merge_post(net, p),
+        Step::PreAgglomerate(p) => merge_pre(net, p),
+        Step::FreeAgglomerate(p) => merge_free(net, p),
         _ => unreachable!(),
     }
 }
@@ -183,8 +217,7 @@ impl Book for Merges {
     fn take(&self, net: &mut Net<'_>, step: &[u8]) -> Result<(), MergeFault> {
         net.check_size()?;
         let step = OWNED.step(step)?;
-        check(net, step)?;
-        rewrite(net, step)?;
+        merge_by(net, step)?;
         Ok(())
     }
 }

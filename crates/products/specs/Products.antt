@@ -1,14 +1,12 @@
 -- The products of the feeders and the consumers of a place, and what they leave in their place.
-use Rattle.std.specs.Prelude.{◌≡◌, ℕ, ◌*◌, ◌<◌, ◌≤◌, Bool, true, false, not, ◌&&◌, List, [], ◌∷◌, ◌++◌, map, length, Ok, Result, nat_le, slice_set}
-use Rattle.std.specs.List.{range_with_len}
+use Rattle.std.specs.Prelude.{◌≡◌, ℕ, ◌+◌, ◌-◌, ◌*◌, ◌<◌, ◌≤◌, Bool, false, cond, not, ◌&&◌, List, [], ◌∷◌, ◌++◌, map, length, Ok, Result, nat_eq, nat_lt, nat_le, slice_index, slice_set}
+use Rattle.std.specs.List.{range_with_len, list_all}
 use Rattle.net.specs.declared.net.NetFault.{NetFault}
 use Rattle.net.specs.declared.net.NetFault.TheVariants.{WrongSize, TooManyTransitions, BadWeight}
-use Rattle.net.specs.declared.net.Side.{Side}
-use Rattle.net.specs.declared.net.Side.TheVariants.{Takes, Puts}
 use Rattle.net.specs.Refusals.{Check, ◌unless◌, judged}
 use Rattle.net.specs.Sheets.{Row, number, most_weight, most_transitions}
 use Rattle.net.specs.States.{State, sized, mark}
-use Rattle.theory.specs.Tests.{◌⇒◌, every_place, every_transition, feeder?, consumer?, feeders, consumers, products_fit?}
+use Rattle.theory.specs.Tests.{every_place, feeder?, consumer?, feeders, consumers, products_fit?}
 use Rattle.theory.specs.Rewrites.{rewritten, kept_rows, merging, post_row, pre_row}
 use Rattle.products.specs.declared.pairs.Kind.{Kind}
 use Rattle.products.specs.declared.pairs.Kind.TheVariants.{Post, Pre}
@@ -22,30 +20,27 @@ product_row Pre s p = pre_row s p
 abbrev pub pair_row : Pair → State → Row
 pair_row x s = product_row x.kind s x.p x.h x.f
 
--- The weight of a row at a place, on one side.
-abbrev pub weight_of : Row → Side → ℕ → ℕ
-weight_of r Takes q = r.takes q
-weight_of r Puts q = r.puts q
+-- The 128 numbers of a row are within the limit of weights.
+abbrev pub Weights : List ℕ → Type 0
+Weights xs = (j : ℕ) → j < 128 → slice_index xs j ≤ most_weight
 
--- The weights of a row are within the limit.
-abbrev pub Fits : Row → Type 0
-Fits r = (q : ℕ) → q < 64 → (r.takes q ≤ most_weight) × (r.puts q ≤ most_weight)
+-- Number `j` of a product, of those of its feeder and its consumer: of its takes, where that is less than 64, else of its puts.
+abbrev pub post_number : ℕ → ℕ → ℕ → ℕ → ℕ → ℕ
+post_number h f p k j = cond (nat_lt j 64) h (cond (nat_eq (j - 64) p) 0 h + k * f)
 
--- The same as a test; of the product of `h` and `f`, if `f` is a consumer of `p`; of all products of `h`, if `h` is a feeder of `p`.
--- Of all feeders it is `products_fit?`.
+abbrev pub pre_number : ℕ → ℕ → ℕ → ℕ → ℕ
+pre_number h f p j = cond (nat_lt j 64) (h + cond (nat_eq j p) 0 f) f
+
+-- The weights of a row are within the limit; those of the products of `h` and these consumers; those of the products of these feeders
+-- and consumers. Of all feeders and consumers it is `products_fit?`.
 abbrev pub row_in_limits? : Row → Bool
 row_in_limits? r = every_place (λ q. nat_le (r.takes q) most_weight && nat_le (r.puts q) most_weight)
 
-abbrev pub consumer_fits? : Kind → State → ℕ → ℕ → ℕ → Bool
-consumer_fits? k s p h f = consumer? s p f ⇒ row_in_limits? (product_row k s p h f)
+abbrev pub consumers_fit? : Kind → State → ℕ → ℕ → List ℕ → Bool
+consumers_fit? k s p h fs = list_all (λ f. row_in_limits? (product_row k s p h f)) fs
 
-abbrev pub feeder_fits? : Kind → State → ℕ → ℕ → Bool
-feeder_fits? k s p h = feeder? s p h ⇒ every_transition s (consumer_fits? k s p h)
-
--- So are the products of all feeders and consumers of `p`.
-abbrev pub AllFit : State → ℕ → (ℕ → ℕ → Row) → Type 0
-AllFit s p product =
-    (h f : ℕ) → h < s.transitions → f < s.transitions → feeder? s p h ≡ true → consumer? s p f ≡ true → Fits (product h f)
+abbrev pub feeders_fit? : Kind → State → ℕ → List ℕ → List ℕ → Bool
+feeders_fit? k s p hs fs = list_all (λ h. consumers_fit? k s p h fs) hs
 
 -- The 128 numbers of a row. They stay shut, since opened they would be counted out.
 unfoldable pub numbers : Row → List ℕ
@@ -59,18 +54,21 @@ apart? s p t = not (feeder? s p t) && not (consumer? s p t)
 abbrev pub replacing : List Row → ℕ → State → State
 replacing qs p s = rewritten s (mark s) (kept_rows (apart? s p) s ++ qs) (slice_set s.standing p false)
 
--- What is asked of a net before its feeders and consumers of `p` are replaced by their products.
-abbrev pub merge_table : Kind → ℕ → State → List (Check NetFault)
-merge_table k p s =
+-- What is asked of a net before its feeders and consumers of `p` are replaced by their products: its size, and room for the products,
+-- then their limits.
+abbrev pub room_table : Kind → ℕ → State → List (Check NetFault)
+room_table k p s =
     WrongSize unless sized s
     ∷ TooManyTransitions unless (nat_le (length (feeders s p) * length (consumers s p)) 32
     && nat_le (merging (product_row k s p) p s).transitions most_transitions)
-    ∷ BadWeight unless products_fit? s p (product_row k s p)
     ∷ []
 
--- So it may be done.
-abbrev pub Allowed : Kind → ℕ → State → Type 0
-Allowed k p s = ◌≡◌ {A = Result Unit NetFault} (Ok tt) (judged (merge_table k p s) tt)
+abbrev pub merge_table : Kind → ℕ → State → List (Check NetFault)
+merge_table k p s = room_table k p s ++ BadWeight unless products_fit? s p (product_row k s p) ∷ []
+
+-- So there is room for them.
+abbrev pub Roomy : Kind → ℕ → State → Type 0
+Roomy k p s = ◌≡◌ {A = Result Unit NetFault} (Ok tt) (judged (room_table k p s) tt)
 
 abbrev pub merged : Kind → ℕ → State → Result State NetFault
 merged k p s = judged (merge_table k p s) (merging (product_row k s p) p s)

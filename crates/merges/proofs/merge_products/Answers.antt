@@ -1,12 +1,9 @@
-use Rattle.std.proofs.Common.{◌≡◌, true, rules}
+use Rattle.std.proofs.Common.{rules}
 use Rattle.net.specs.States.{view}
-use Rattle.theory.specs.Tests.{products_fit?}
-use Rattle.products.specs.Products.{product_row}
-use Rattle.merges.proofs.Limits.{merging_passed}
+use Rattle.merges.proofs.Limits.{answered_limit}
 use Rattle.merges.proofs.merge_products.Goals as goal
 
 pub returns-clause-exact : goal.returns-clause-exact
 returns-clause-exact c =
-    let e : products_fit? (view c.args.net.now) c.args.p (product_row c.args.kind (view c.args.net.now) c.args.p) ≡ true =
-    merging_passed c.args.kind (view c.args.net.now) c.args.p c.requires in
-    search (rules, e)
+    answered_limit (view c.args.net.now) c.args.kind c.args.p c.rest_fits.ensures c.requires.size c.requires.counts c.merge.result (view c.merge.new.net)
+    c.map_err.result c.merge.ensures.exact (λ e. search rules) (λ e d. search rules)

@@ -1,0 +1,9 @@
+use Rattle.std.proofs.Common.{rules, get_or}
+use Rattle.checks.proofs.Made.{made}
+use Rattle.products.specs.Products.{pre_number}
+use Rattle.products.proofs.weights.pre_row.Goals as goal
+
+pub returns : goal.returns
+returns c = λ j h.
+    made (λ k. pre_number (get_or c.args.feeder.now k 0) (get_or c.args.consumer.now k 0) c.args.p k) (λ k y q e. search rules)
+    c.from_fn.result 128 c.from_fn.ensures.items j 0 h
