@@ -1,2 +1,4 @@
 pub mod Both
+pub mod Flagging
 pub mod Made
+pub mod Within

@@ -11,7 +11,7 @@ use net::{Net, Side};
 pub fn touches_only(net: &Net<'_>, side: Side, t: u8, p: u8) -> bool
     ensures { result ≡ touches_only? side (view net.now) t p }
 {
-    places().all(|q| q == p || weight_of(net, side, t, q) == 0)
+    places().all(|q| weight_of(net, side, t, q) == 0 || q == p)
 }
 
 // Does t touch no place of the support on this side?
@@ -19,5 +19,5 @@ pub fn touches_only(net: &Net<'_>, side: Side, t: u8, p: u8) -> bool
 pub fn spares_support(net: &Net<'_>, side: Side, t: u8) -> bool
     ensures { result ≡ spares_support? side (view net.now) t }
 {
-    places().all(|q| !supports_at(net, q) || weight_of(net, side, t, q) == 0)
+    places().all(|q| weight_of(net, side, t, q) == 0 || !supports_at(net, q))
 }

@@ -15,7 +15,7 @@ mod neighbours;
 mod nodes;
 
 pub use alone::{spares_support, touches_only};
-pub use limits::{in_limits, rest_fits, rows_fit};
+pub use limits::{in_limits, rows_fit};
 pub use neighbours::{OnlyConsumer, Source, Touches};
 use net::{MOST_PLACES, Net, Question, Side, flag_at};
 pub use nodes::{

@@ -6,7 +6,6 @@ ghost use Rattle.net.specs.States.{State, view};
 ghost use Rattle.theory.specs.Tests.{every, some, lowest, those};
 
 use net::{MOST_PLACES, MOST_TRANSITIONS, Net};
-use std::array;
 use std::ops::Range;
 
 // The numbers of the places.
@@ -105,19 +104,14 @@ pub fn count<T: Test>(net: &Net<'_>, test: &T) -> usize
     T::Of::of(net).filter(|i| test.test(net, *i)).count()
 }
 
-// Does the test hold of this node, and is it one of the net?
-fn flag<T: Test>(net: &Net<'_>, test: &T, i: usize) -> bool
-    requires { i < 96 }
-    ensures { result ≡ (nat_lt i (T.Of.count (view net.now)) && T.Test.holds test.now (view net.now) i) }
-{
-    // No `try_from`, since the cast loses nothing: i is less than 96.
-    i < usize::from(T::Of::of(net).end) && test.test(net, i as u8)
-}
-
 // The flags of the nodes: true for those of which the test holds, false past the last. They are as many as there may be transitions,
 // since nothing is allocated.
 pub fn flags<T: Test>(net: &Net<'_>, test: &T) -> [bool; MOST_TRANSITIONS]
     ensures { (i : ℕ) → slice_index_or result i false ≡ (nat_lt i (T.Of.count (view net.now)) && T.Test.holds test.now (view net.now) i) }
 {
-    array::from_fn(|i| flag(net, test, i))
+    let mut flags = [false; MOST_TRANSITIONS];
+    for i in T::Of::of(net) {
+        flags[usize::from(i)] = test.test(net, i);
+    }
+    flags
 }

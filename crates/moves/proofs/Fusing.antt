@@ -1,8 +1,10 @@
 -- Two places are fused: the numbers of one are added to those of the other, and then it goes.
-use Rattle.std.proofs.Common.{◌≡◌, ℕ, zero, suc, ◌+◌, ◌*◌, ◌/◌, ◌%◌, ◌<◌, ◌≤◌, Bool, true, false, cond, ◌&&◌, eqb, leb, ◌≢◌, ◌⊎◌, List, ◌∷◌, map, length, get_or, set, Ok, Err, Result, sym, refl, ap, ◌∙◌, inl, inr, arith, []}
+use Rattle.std.proofs.Common.{◌≡◌, ℕ, zero, suc, ◌+◌, ◌-◌, ◌*◌, ◌/◌, ◌%◌, ◌<◌, ◌≤◌, Bool, true, false, cond, ◌&&◌, eqb, leb, ◌≢◌, ◌⊎◌, List, ◌∷◌, map, length, get_or, set, Ok, Err, Result, sym, refl, ap, subst, ◌∙◌, inl, inr, arith, []}
 use mathlib.Core.Path.{fun_ext}
 use Rattle.std.specs.List.{range_with_len}
-use Rattle.std.proofs.lemmas.Bool.{and_parts, eqb-true, leb-true, cases_lt, lt-ltb, eq-eqb, ne_eqb, cond-true, cond-false}
+use Rattle.std.proofs.lemmas.Bool.{and_parts, eqb-true, leb-true, cases_eq, cases_lt, lt-ltb, eq-eqb, ne_eqb, cond-true, cond-false}
+use Rattle.std.specs.Result.{IfOk}
+use Rattle.std.proofs.lemmas.Result.{IfOk-at_ok}
 use Rattle.net.specs.declared.net.NetFault.{NetFault}
 use Rattle.net.specs.declared.net.NetFault.TheVariants.{WrongSize}
 use Rattle.net.specs.Looks.{measured, sheet_checks, place_checks}
@@ -10,6 +12,7 @@ use Rattle.net.proofs.Tables.{passed, passing}
 use Rattle.net.specs.Refusals.{◌unless◌, judged, Passes}
 use Rattle.net.specs.Sheets.{Row, row_at, rows_in, part, most_weight}
 use Rattle.net.specs.States.{State, stands, mark, take, put, left, Answered, sized, said}
+use Rattle.net.specs.Tidy.{Tidied, Tidy}
 use Rattle.theory.specs.Nexts.{off, fuse}
 use Rattle.theory.specs.Rewrites.{rewritten, off_row, leaving, fuse_row, fusing}
 use Rattle.theory.specs.Steps.{in_limits?, table, fuse_places}
@@ -38,16 +41,60 @@ module _ (s : State) (p q : ℕ) (a : p < 64) (b : q < 64) (fits : fusion_fits? 
   sum k base e =
       omega (arith, part_is s.sheet base (64 * k + p) p a (omega arith), part_is s.sheet base (64 * k + q) q b (omega arith))
 
-  pub sums_fit : SumsFit s.sheet s.transitions p q
-  sums_fit zero l = omega (arith, sum 0 0 refl, leb-true (mark s p + mark s q) 4294967295 halves.0)
-  sums_fit (suc k) l = go (cases_lt (k % 2) 1)
+  weight_sum : (k : ℕ) → k < 2 * s.transitions → get_or s.sheet (64 * suc k + p) 0 + get_or s.sheet (64 * suc k + q) 0 ≤ 65535
+  weight_sum k l = go (cases_lt (k % 2) 1)
     where
       t : ℕ
       t = k / 2
 
-      go : (k % 2 < 1) ⊎ (1 ≤ k % 2) → get_or s.sheet (64 * suc k + p) 0 + get_or s.sheet (64 * suc k + q) 0 ≤ 4294967295
+      go : (k % 2 < 1) ⊎ (1 ≤ k % 2) → get_or s.sheet (64 * suc k + p) 0 + get_or s.sheet (64 * suc k + q) 0 ≤ 65535
       go (inl h) = let e = sum (suc k) (64 + 128 * t) (omega arith) in omega (arith, e, (weights t (omega arith)).0)
       go (inr h) = let e = sum (suc k) (128 + 128 * t) (omega arith) in omega (arith, e, (weights t (omega arith)).1)
+
+  pub sums_fit : SumsFit s.sheet s.transitions p q
+  sums_fit zero l = omega (arith, sum 0 0 refl, leb-true (mark s p + mark s q) 4294967295 halves.0)
+  sums_fit (suc k) l = omega (arith, weight_sum k (omega arith))
+
+  -- The sheet stays tidy when they are added.
+  module _ (ys : List ℕ) (x : Added s.sheet ys (1 + 2 * s.transitions) p q) (y : Tidied s.sheet s.transitions) where
+    number_is : (i : ℕ) → (64 * (i / 64) + p ≡ i) × (i < 64 + 128 * s.transitions) ⊎ (get_or ys i 0 ≡ get_or s.sheet i 0)
+    number_is i = go (cases_eq (i % 64) p) (cases_lt (i / 64) (1 + 2 * s.transitions))
+      where
+        at : (r : ℕ) → i % 64 ≡ r → 64 * (i / 64) + r ≡ i
+        at r e = omega arith
+
+        go : (i % 64 ≡ p) ⊎ (i % 64 ≡ p → ⊥) → (i / 64 < 1 + 2 * s.transitions) ⊎ (1 + 2 * s.transitions ≤ i / 64)
+            → (64 * (i / 64) + p ≡ i) × (i < 64 + 128 * s.transitions) ⊎ (get_or ys i 0 ≡ get_or s.sheet i 0)
+        go (inl e) (inl l) = inl (at p e, omega arith)
+        go (inl e) (inr l) = inr (subst (λ j. get_or ys j 0 ≡ get_or s.sheet j 0) (at p e) (x.later (i / 64) l))
+        go (inr e) l = inr (subst (λ j. get_or ys j 0 ≡ get_or s.sheet j 0) (at (i % 64) refl) (x.others (i / 64) (i % 64) (omega arith) e))
+
+    added_weight : (i : ℕ) → 64 ≤ i → get_or ys i 0 ≤ 65535
+    added_weight i h = go (number_is i)
+      where
+        go : (64 * (i / 64) + p ≡ i) × (i < 64 + 128 * s.transitions) ⊎ (get_or ys i 0 ≡ get_or s.sheet i 0) → get_or ys i 0 ≤ 65535
+        go (inl e) =
+            let k : ℕ = i / 64 - 1 in
+            let here : 64 * suc k + p ≡ i = omega (arith, e.0) in
+            let small : get_or ys (64 * suc k + p) 0 ≤ 65535 = omega (arith, x.sums (suc k) (omega (arith, e.1)), weight_sum k (omega (arith, e.1))) in
+            subst (λ j. get_or ys j 0 ≤ 65535) here small
+        go (inr e) = omega (arith, e, y.weights i h)
+
+    added_unused : (i : ℕ) → 64 + 128 * s.transitions ≤ i → get_or ys i 0 ≡ 0
+    added_unused i h = go (number_is i)
+      where
+        go : (64 * (i / 64) + p ≡ i) × (i < 64 + 128 * s.transitions) ⊎ (get_or ys i 0 ≡ get_or s.sheet i 0) → get_or ys i 0 ≡ 0
+        go (inl e) = absurd (omega arith)
+        go (inr e) = e ∙ y.unused i h
+
+    added_tidied : Tidied ys s.transitions
+    added_tidied = record { unused = added_unused; weights = added_weight }
+
+  pub added_tidy : (ys : List ℕ) (r : Result Unit NetFault) → length ys ≡ length s.sheet → r ≡ measured s.sheet
+      → IfOk r (λ _. Added s.sheet ys (1 + 2 * s.transitions) p q) → Tidy s.sheet s.transitions → Tidy ys s.transitions
+  added_tidy ys r same e x y size =
+      let h : length s.sheet ≡ 12352 = sym same ∙ size in
+      added_tidied ys (IfOk-at_ok _ (e ∙ passing (sheet_checks s) tt (eq-eqb (length s.sheet) 12352 h, tt)) x) (y h)
 
 -- The last line of the table asks whether all numbers are within their limits before the fusion, and the sums.
 module _ (s : State) (p q a b : ℕ) (few : s.transitions ≤ 96) where

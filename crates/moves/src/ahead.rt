@@ -1,9 +1,9 @@
 // Firings of a transition ahead of time.
-ghost use Rattle.std.specs.Prelude.{◌≡◌, ℕ, ◌*◌, ◌<◌, ◌&&◌, true, slice_index, nat_le};
+ghost use Rattle.std.specs.Prelude.{◌≡◌, ℕ, ◌*◌, ◌<◌, ◌&&◌, true, slice_index, nat_le, nat_lt};
 ghost use Rattle.net.specs.States.{view, mark, take};
-ghost use Rattle.theory.specs.Tests.{ahead?, suffices?, mark_ahead, ahead_fits?, rows_fit?};
+ghost use Rattle.theory.specs.Tests.{lowest, mark_ahead, ahead_fits?, rows_fit?};
 
-use crate::conditions::{MOST_MARK, is_only};
+use crate::conditions::MOST_MARK;
 use checks::{Source, first, mark_of, places, put_of, rows_fit, take_of};
 use net::{MOST_PLACES, Net};
 use std::array;
@@ -16,33 +16,18 @@ pub(crate) struct Ahead {
 }
 
 impl Ahead {
-    // Does t take from one place only, and is it the only consumer there, hidden from the support?
-    // Here and below `is_some_and` and `is_none_or` were tried: of a closure that holds the net they tell a proof nothing about its
-    // answer, which `all` and `any` tell.
-    pub(crate) fn is_allowed(self, net: &Net<'_>) -> bool
-        ensures { result ≡ ahead? (view net.now) self.t }
+    // The first place that t takes from.
+    pub(crate) fn source(self, net: &Net<'_>) -> Option<u8>
+        ensures { result ≡ lowest 64 (λ p. nat_lt 0 (take (view net.now) self.t p)) }
     {
-        let Some(p) = first(net, &Source { t: self.t }) else {
-            return false;
-        };
-        is_only(net, self.t, p)
+        first(net, &Source { t: self.t })
     }
 
     // Does the mark of p suffice?
-    fn suffices_at(self, net: &Net<'_>, p: u8) -> bool
+    pub(crate) fn suffices_at(self, net: &Net<'_>, p: u8) -> bool
         ensures { result ≡ nat_le (self.k * take (view net.now) self.t p) (mark (view net.now) p) }
     {
         u64::from(self.k) * u64::from(take_of(net, self.t, p)) <= u64::from(mark_of(net, p))
-    }
-
-    // Does the mark of the place that t takes from suffice?
-    pub(crate) fn suffices(self, net: &Net<'_>) -> bool
-        ensures { result ≡ suffices? (view net.now) self.t self.k }
-    {
-        let Some(p) = first(net, &Source { t: self.t }) else {
-            return true;
-        };
-        self.suffices_at(net, p)
     }
 
     // The mark of a place afterwards.

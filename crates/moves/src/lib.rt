@@ -25,6 +25,7 @@ use books::Book;
 use books::faults::BookFault;
 use books::step::{Owned, Step};
 use checks::{is_there, stands_at, supports_at};
+use conditions::is_only;
 use fusion::Fusion;
 use net::{Net, NetFault, SHEET_SIZE};
 use rewrites::{remove_place, write_marks};
@@ -40,10 +41,13 @@ fn check_ahead(net: &Net<'_>, ahead: Ahead) -> Result<(), Refusal>
     if ahead.k == 0 {
         return Err(Refusal::Nothing);
     }
-    if !ahead.is_allowed(net) {
+    let Some(p) = ahead.source(net) else {
+        return Err(Refusal::Arcs);
+    };
+    if !is_only(net, ahead.t, p) {
         return Err(Refusal::Arcs);
     }
-    if !ahead.suffices(net) {
+    if !ahead.suffices_at(net, p) {
         return Err(Refusal::Marks);
     }
     if !ahead.fits(net) {

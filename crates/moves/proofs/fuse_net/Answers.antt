@@ -1,10 +1,11 @@
 use Rattle.std.proofs.Common.{◌<◌, ◌+◌, ◌*◌, ◌∙◌, length, sym, arith}
 use Rattle.std.proofs.lemmas.Bool.{eqb-true, eqb-false}
+use Rattle.std.specs.Result.{IfOk}
 use Rattle.net.specs.States.{view}
 use Rattle.net.proofs.Keeps.{flag_below}
 use Rattle.theory.specs.Rewrites.{fusing}
 use Rattle.moves.specs.Columns.{Added}
-use Rattle.moves.proofs.Fusing.{sums_fit, fused_net, asked_size, size_asked}
+use Rattle.moves.proofs.Fusing.{sums_fit, added_tidy, fused_net, asked_size, size_asked}
 use Rattle.moves.proofs.fuse_net.Goals as goal
 
 pub add_place-requires-clause-places : goal.add_place-requires-clause-places
@@ -24,6 +25,16 @@ add_place-requires-clause-sums c =
     let a : c.args.fusion.p < 64 = omega (arith, flag_below c.args.net.now.shape.standing c.args.fusion.p c.requires.places.0) in
     let b : c.args.fusion.q < 64 = omega (arith, flag_below c.args.net.now.shape.standing c.args.fusion.q c.requires.places.1.0) in
     rw (c.from.ensures, c.from-2.ensures) (sums_fit (view c.args.net.now) c.args.fusion.p c.args.fusion.q a b c.requires.sums)
+
+pub invariant_of-net : goal.invariant_of-net
+invariant_of-net c =
+    let a : c.args.fusion.p < 64 = omega (arith, flag_below c.args.net.now.shape.standing c.args.fusion.p c.requires.places.0) in
+    let b : c.args.fusion.q < 64 = omega (arith, flag_below c.args.net.now.shape.standing c.args.fusion.q c.requires.places.1.0) in
+    let x : IfOk c.add_place.result (λ _. Added (view c.args.net.now).sheet c.add_place.new.sheet (1 + 2 * c.args.net.now.shape.transitions) c.args.fusion.p c.args.fusion.q) =
+    rw (sym c.from.ensures, sym c.from-2.ensures) c.add_place.ensures.added in
+    record {
+      tidy = added_tidy (view c.args.net.now) c.args.fusion.p c.args.fusion.q a b c.requires.sums c.add_place.new.sheet c.add_place.result (omega arith) c.add_place.ensures.answer x c.args.net.now.tidy;
+    }
 
 pub returns-clause-exact : goal.returns-clause-exact
 returns-clause-exact c =
