@@ -11,26 +11,6 @@ mod tests {
     use std::test::Fail;
     use stream::read;
 
-    // The relay with an idle transition 2, which has no weights.
-    const IDLE: [u8; 43] = [
-        0x10, 0, 0, 0, 1, 0, 0x10, 0, 0, 0, 0, 0, 0x10, 0, 0, 0, 0, 1, 0x11, 0x11, 0x11, 0x12, 0,
-        0, 0, 1, 0x13, 0, 1, 0, 1, 0x12, 1, 1, 0, 1, 0x13, 1, 2, 0, 1, 0x1f, 1,
-    ];
-
-    // A swap with an idle transition 2: place 0 with one token, and place 1; transition 0 moves a token from 0 to 1, transition 1 from
-    // 1 to 0. The question is reach.
-    const SWAP: [u8; 37] = [
-        0x10, 0, 0, 0, 1, 0, 0x10, 0, 0, 0, 0, 0, 0x11, 0x11, 0x11, 0x12, 0, 0, 0, 1, 0x13, 0, 1,
-        0, 1, 0x12, 1, 1, 0, 1, 0x13, 1, 0, 0, 1, 0x1f, 1,
-    ];
-
-    // What the idle transition takes from place 40, which does not stand, is written on the lent sheet itself.
-    fn write_idle(net: &mut Net<'_>, weight: u32) {
-        if let Some(number) = net.sheet.get_mut(360) {
-            *number = weight;
-        }
-    }
-
     // The number of the refusal of a step by the house book, where it is refused.
     fn refused(net: &mut Net<'_>, step: &[u8]) -> Option<u8> {
         number(house().take(net, step))
@@ -105,28 +85,6 @@ mod tests {
         assert_eq!(rt; seen(&net, Look::Take(0, 0)), Ok(1));
         assert_eq!(rt; seen(&net, Look::Put(0, 2)), Ok(1));
         assert_eq!(rt; seen(&net, Look::Mark(0)), Ok(1));
-        Ok(())
-    }
-
-    #[test]
-    fn weights_past_the_limit(rt: HostRuntime) -> Result<(), Fail> {
-        let mut sheet = vec![in rt.alloc(); 7u32; 12_352]?;
-        let mut draft = Draft::start(&mut sheet);
-        assert!(rt; read(&mut draft, &IDLE).is_ok());
-        let mut net = draft.finish();
-        write_idle(&mut net, 65_536);
-        assert_eq!(rt; refused(&mut net, &[0x2d, 0, 0, 1]), Some(21));
-        assert_eq!(rt; refused(&mut net, &[0x2b, 1]), Some(21));
-        assert_eq!(rt; refused(&mut net, &[0x2c, 1]), Some(21));
-        write_idle(&mut net, 65_535);
-        assert_eq!(rt; refused(&mut net, &[0x2b, 1]), None);
-        let mut draft = Draft::start(&mut sheet);
-        assert!(rt; read(&mut draft, &SWAP).is_ok());
-        let mut net = draft.finish();
-        write_idle(&mut net, 65_536);
-        assert_eq!(rt; refused(&mut net, &[0x2e, 0, 1, 0, 1]), Some(21));
-        write_idle(&mut net, 65_535);
-        assert_eq!(rt; refused(&mut net, &[0x2e, 0, 1, 0, 1]), None);
         Ok(())
     }
 

@@ -3,7 +3,7 @@
 
 #[cfg(test)]
 mod tests {
-    use net::{Draft, Layer, Look, NetFault, Origin, Position, measure};
+    use net::{Draft, Layer, Look, Net, NetFault, Origin, Position, measure};
     use samples::{RELAY, number, parts, seen};
     use std::test::Fail;
     use stream::{Cause, ReadFault, read};
@@ -32,9 +32,10 @@ mod tests {
         assert_eq!(rt; seen(&net, Look::Question), Err(1));
         assert_eq!(rt; seen(&net, Look::Stands(0)), Err(1));
         assert_eq!(rt; seen(&net, Look::Put(0, 0)), Err(1));
-        assert!(rt; net.sheet.len() == 12_351);
-        assert_eq!(rt; net.sheet[0], 7);
-        assert_eq!(rt; net.sheet[12_350], 7);
+        let Net { sheet, .. } = net;
+        assert!(rt; sheet.len() == 12_351);
+        assert_eq!(rt; sheet[0], 7);
+        assert_eq!(rt; sheet[12_350], 7);
         Ok(())
     }
 
@@ -81,8 +82,9 @@ mod tests {
         assert_eq!(rt; seen(&net, Look::Take(96, 63)), Err(8));
         assert_eq!(rt; seen(&net, Look::Take(95, 64)), Err(9));
         assert_eq!(rt; seen(&net, Look::Mark(63)), Ok(5));
-        assert!(rt; net.sheet.len() == 12_352);
-        assert_eq!(rt; net.sheet[12_351], 9);
+        let Net { sheet, .. } = net;
+        assert!(rt; sheet.len() == 12_352);
+        assert_eq!(rt; sheet[12_351], 9);
         Ok(())
     }
 
@@ -123,8 +125,9 @@ mod tests {
         let net = draft.finish();
         assert_eq!(rt; seen(&net, Look::Transitions), Ok(0));
         assert_eq!(rt; seen(&net, Look::Stands(0)), Ok(0));
-        assert!(rt; net.sheet.len() == 12_352);
-        assert_eq!(rt; net.sheet[0], 0);
+        let Net { sheet, .. } = net;
+        assert!(rt; sheet.len() == 12_352);
+        assert_eq!(rt; sheet[0], 0);
         Ok(())
     }
 
