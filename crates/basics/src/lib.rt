@@ -1,7 +1,7 @@
 // The first house book: steps that drop one transition, keep one, or remove one place.
 #![tactic(auto)]
 
-ghost use Rattle.std.specs.Prelude.{◌≡◌, true, refl};
+ghost use Rattle.std.specs.Prelude.{◌≡◌, true, length, refl};
 ghost use Rattle.net.specs.Views.{SameSheet};
 ghost use Rattle.net.specs.Refusals.{judged, Passes};
 ghost use Rattle.net.specs.Looks.{Leaves};
@@ -30,6 +30,7 @@ use theory::Refusal;
 
 // The questions of the step that drops a dominated transition.
 fn check_dominated(net: &Net<'_>, t: u8, u: u8) -> Result<(), Refusal>
+    requires { length net.now.sheet.now ≡ 12352 }
     ensures { result ≡ judged (table (view net.now) (drop_dominated t u)) tt }
 {
     if !is_there(net, t) || !is_there(net, u) {
@@ -46,6 +47,7 @@ fn check_dominated(net: &Net<'_>, t: u8, u: u8) -> Result<(), Refusal>
 
 // The questions of the step that drops a multiple.
 fn check_multiple(net: &Net<'_>, t: u8, u: u8, k: u16) -> Result<(), Refusal>
+    requires { length net.now.sheet.now ≡ 12352 }
     ensures { result ≡ judged (table (view net.now) (drop_multiple t u k)) tt }
 {
     if !is_there(net, t) || !is_there(net, u) {
@@ -65,6 +67,7 @@ fn check_multiple(net: &Net<'_>, t: u8, u: u8, k: u16) -> Result<(), Refusal>
 
 // The questions of the step that drops a composed transition.
 fn check_composed(net: &Net<'_>, t: u8, u: u8, v: u8) -> Result<(), Refusal>
+    requires { length net.now.sheet.now ≡ 12352 }
     ensures { result ≡ judged (table (view net.now) (drop_composed t u v)) tt }
 {
     if !is_there(net, t) || !is_there(net, u) || !is_there(net, v) {
@@ -81,6 +84,7 @@ fn check_composed(net: &Net<'_>, t: u8, u: u8, v: u8) -> Result<(), Refusal>
 
 // The questions of the step that drops a draining transition.
 fn check_draining(net: &Net<'_>, t: u8) -> Result<(), Refusal>
+    requires { length net.now.sheet.now ≡ 12352 }
     ensures { result ≡ judged (table (view net.now) (drop_draining t)) tt }
 {
     if !is_reach_only(net) {
@@ -194,7 +198,8 @@ const OWNED: Owned = Owned {
 // The questions of a step of this book. A match here and in the rewrite: each step has operands of its own, and a closure for each would
 // be made in a match. Both ask that the step is the book's own, since one type of steps serves all books.
 fn check(net: &Net<'_>, step: Step<'_>) -> Result<(), Refusal>
-    requires { owns basic_width (plain step) ≡ true }
+    requires size { length net.now.sheet.now ≡ 12352 }
+    requires own { owns basic_width (plain step) ≡ true }
     ensures { result ≡ judged (table (view net.now) (plain step.entry)) tt }
 {
     match step {

@@ -10,7 +10,7 @@ use Rattle.theory.specs.Tests.{row_fits?, rows_fit?}
 use Rattle.theory.proofs.Says.{every_from}
 
 module _ (n : Net) (e : Ok tt ≡ measured n.sheet.now) where
-  size : length n.sheet.now ≡ 12352
+  pub size : length n.sheet.now ≡ 12352
   size = eqb-true (length n.sheet.now) 12352 (passed (sheet_checks (view n)) tt tt (sym e)).0.0
 
   within : (i p : ℕ) → 64 ≤ i → p < 64 → part n.sheet.now i p ≤ most_weight

@@ -25,7 +25,7 @@ fn row_fits(net: &Net<'_>, t: u8) -> bool
 // Are the weights of every transition within their limit? On a sheet of the right size they are, since a net is tidy; a sheet of
 // another size may hold anything.
 #[tactic(auto, using(crate::proofs::Within::rows_within), unfolding(theory::specs::Tests::every))]
-pub fn rows_fit(net: &Net<'_>) -> bool
+fn rows_fit(net: &Net<'_>) -> bool
     ensures { result ≡ rows_fit? (view net.now) }
 {
     net.check_size().is_ok() || transitions(net).all(|t| row_fits(net, t))

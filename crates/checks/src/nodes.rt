@@ -3,7 +3,7 @@ ghost use Rattle.std.specs.Prelude.{◌≡◌, ℕ, ◌<◌, ◌≤◌, Bool, fa
 ghost use Rattle.std.proofs.Common.{arith};
 ghost use Rattle.net.specs.declared.net.Net.{Net};
 ghost use Rattle.net.specs.States.{State, view};
-ghost use Rattle.theory.specs.Tests.{every, some, lowest, those};
+ghost use Rattle.theory.specs.Tests.{every, some, lowest};
 
 use net::{MOST_PLACES, MOST_TRANSITIONS, Net};
 use std::ops::Range;
@@ -20,8 +20,9 @@ pub fn places() -> Range<u8>
 pub fn transitions(net: &Net<'_>) -> Range<u8>
     ensures { (result.start ≡ 0) × (result.end ≡ (view net.now).transitions) }
 {
-    // No `try_from`, since the cast loses nothing: a net has at most 96 transitions.
-    0..net.shape.transitions as u8
+    // No `try_from`, since the cast loses nothing: a net has at most 96 transitions. The minimum is their count itself; with it the
+    // compiler knows too that their rows are within the sheet.
+    0..net.shape.transitions.min(MOST_TRANSITIONS) as u8
 }
 
 // A kind of nodes.
@@ -94,14 +95,6 @@ pub fn first<T: Test>(net: &Net<'_>, test: &T) -> Option<u8>
     ensures { result ≡ lowest (T.Of.count (view net.now)) (T.Test.holds test.now (view net.now)) }
 {
     T::Of::of(net).find(|i| test.test(net, *i))
-}
-
-// How many nodes there are of which the test holds.
-pub fn count<T: Test>(net: &Net<'_>, test: &T) -> usize
-    ensures count { result ≡ length (those (T.Test.holds test.now (view net.now)) (T.Of.count (view net.now))) }
-    ensures few { result ≤ 96 }
-{
-    T::Of::of(net).filter(|i| test.test(net, *i)).count()
 }
 
 // The flags of the nodes: true for those of which the test holds, false past the last. They are as many as there may be transitions,

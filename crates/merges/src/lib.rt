@@ -27,7 +27,7 @@ use conditions::{
     is_two_sided,
 };
 use net::{MOST_TRANSITIONS, Net};
-use products::{Kind, MOST_PRODUCTS, merge, pair_count, rest_count};
+use products::{Kind, MOST_PRODUCTS, count_by_place, merge};
 use theory::Refusal;
 
 // The first questions of an agglomeration: p stands, is outside the support, and has feeders and consumers that are apart.
@@ -53,11 +53,11 @@ fn check_counts(net: &Net<'_>, p: u8) -> Result<(), Refusal>
     if mark_of(net, p) > 0 {
         return Err(Refusal::Marks);
     }
-    let pairs = pair_count(net, p);
-    if pairs > MOST_PRODUCTS {
+    let counts = count_by_place(net, p);
+    if counts.products > MOST_PRODUCTS {
         return Err(Refusal::TooManyPairs);
     }
-    if rest_count(net, p) + pairs > MOST_TRANSITIONS {
+    if counts.rest + counts.products > MOST_TRANSITIONS {
         return Err(Refusal::TooManyRows);
     }
     Ok(())

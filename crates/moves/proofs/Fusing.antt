@@ -1,17 +1,16 @@
 -- Two places are fused: the numbers of one are added to those of the other, and then it goes.
-use Rattle.std.proofs.Common.{◌≡◌, ℕ, zero, suc, ◌+◌, ◌-◌, ◌*◌, ◌/◌, ◌%◌, ◌<◌, ◌≤◌, Bool, true, false, cond, ◌&&◌, eqb, leb, ◌≢◌, ◌⊎◌, List, ◌∷◌, map, length, get_or, set, Ok, Err, Result, sym, refl, ap, subst, ◌∙◌, inl, inr, arith, []}
+use Rattle.std.proofs.Common.{◌≡◌, ℕ, zero, suc, ◌+◌, ◌-◌, ◌*◌, ◌/◌, ◌%◌, ◌<◌, ◌≤◌, Bool, true, false, cond, ◌&&◌, eqb, leb, ◌≢◌, ◌⊎◌, List, ◌∷◌, map, length, get_or, set, Ok, Result, sym, refl, ap, subst, ◌∙◌, inl, inr, arith}
 use mathlib.Core.Path.{fun_ext}
 use Rattle.std.specs.List.{range_with_len}
 use Rattle.std.proofs.lemmas.Bool.{and_parts, eqb-true, leb-true, cases_eq, cases_lt, lt-ltb, eq-eqb, ne_eqb, cond-true, cond-false}
 use Rattle.std.specs.Result.{IfOk}
 use Rattle.std.proofs.lemmas.Result.{IfOk-at_ok}
 use Rattle.net.specs.declared.net.NetFault.{NetFault}
-use Rattle.net.specs.declared.net.NetFault.TheVariants.{WrongSize}
 use Rattle.net.specs.Looks.{measured, sheet_checks, place_checks}
-use Rattle.net.proofs.Tables.{passed, passing}
-use Rattle.net.specs.Refusals.{◌unless◌, judged, Passes}
+use Rattle.net.proofs.Tables.{passing}
+use Rattle.net.specs.Refusals.{judged, Passes}
 use Rattle.net.specs.Sheets.{Row, row_at, rows_in, part, most_weight}
-use Rattle.net.specs.States.{State, stands, mark, take, put, left, Answered, sized, said}
+use Rattle.net.specs.States.{State, stands, mark, take, put, left, Answered, said}
 use Rattle.net.specs.Tidy.{Tidied, Tidy}
 use Rattle.theory.specs.Nexts.{off, fuse}
 use Rattle.theory.specs.Rewrites.{rewritten, off_row, leaving, fuse_row, fusing}
@@ -173,14 +172,3 @@ module _ (s : State) (ys : List ℕ) (p q : ℕ) (a : p < 64) (b : q < 64) (diff
     where
       whole : judged (place_checks added q) (leaving q added) ≡ Ok (leaving q added)
       whole = passing (place_checks added q) (leaving q added) (eq-eqb (length ys) 12352 size, (h, tt))
-
--- A call that asks the size first answers as a table with that line alone.
-pub asked_size : (s : State) → measured s.sheet ≡ Ok tt → sized s ≡ true
-asked_size s h = (passed (WrongSize unless sized s ∷ []) tt tt h).0.0
-
-pub size_asked : (s next t : State) (r : Result Unit NetFault) → sized s ≡ true → (r ≡ Ok tt) × (t ≡ next) → Answered r t s (judged (sheet_checks s) next)
-size_asked s next t r e d =
-    record {
-      answer = d.0 ∙ ap (λ (b : Bool). said (cond {A = Result State NetFault} b (Ok next) (Err WrongSize))) (sym e);
-      state = d.1 ∙ ap (λ (b : Bool). left s (cond {A = Result State NetFault} b (Ok next) (Err WrongSize))) (sym e);
-    }

@@ -7,9 +7,6 @@ ghost use Rattle.theory.specs.Tests.{carries?};
 use checks::{OnlyConsumer, every, put_of, spares_support, supports_at, take_of, touches_only};
 use net::{Net, Side};
 
-// The most tokens of a start mark.
-pub(crate) const MOST_MARK: u64 = 4_294_967_295;
-
 // Does t put nothing into p and nothing into the support, with p outside the support?
 fn is_hidden(net: &Net<'_>, t: u8, p: u8) -> bool
     ensures { result ≡ hidden_at (view net.now) t p }

@@ -5,9 +5,12 @@ ghost use Rattle.net.specs.States.{view, take, put};
 ghost use Rattle.theory.specs.Steps.{in_limits?};
 ghost use Rattle.theory.specs.Tests.{every_transition, carries?, fusion_fits?};
 
-use crate::conditions::{MOST_MARK, carries};
+use crate::conditions::carries;
 use checks::{in_limits, mark_of, put_of, take_of, transitions};
 use net::{MOST_WEIGHT, Net};
+
+// The most tokens of a start mark.
+const MOST_MARK: u64 = 4_294_967_295;
 
 // The fusion of place q with p, where transition a carries from p to q, and b from q to p.
 #[derive(Clone, Copy, Debug, PartialEq, Eq)]

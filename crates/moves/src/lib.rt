@@ -1,18 +1,18 @@
 // The fourth house book: tokens are moved by firings ahead of time, or by fusing two places.
 #![tactic(auto)]
 
-ghost use Rattle.std.specs.Prelude.{◌≡◌, ◌+◌, ◌*◌, ◌<◌, ◌≤◌, true, false, ◌==◌, ◌≢◌, IfOk, IfErr, refl};
+ghost use Rattle.std.specs.Prelude.{◌≡◌, ◌+◌, ◌*◌, ◌<◌, ◌≤◌, true, false, ◌==◌, ◌≢◌, IfOk, IfErr, length, refl};
 ghost use Rattle.net.specs.Views.{SameSheet};
-ghost use Rattle.net.specs.Refusals.{judged, Passes};
+ghost use Rattle.net.specs.Refusals.{judged};
 ghost use Rattle.net.specs.Looks.{Leaves, measured};
 ghost use Rattle.net.specs.States.{view, stands};
 ghost use Rattle.books.specs.Faults.{book_number, from_net, from_bytes, from_step};
 ghost use Rattle.books.specs.House.{plain, owns, step_of};
 ghost use Rattle.moves.specs.Columns.{SumsFit, Added};
 ghost use Rattle.moves.specs.Moves.{move_width, move_taken};
-ghost use Rattle.theory.specs.Rewrites.{firing_ahead, fusing};
+ghost use Rattle.theory.specs.Rewrites.{fusing};
 ghost use Rattle.theory.specs.Steps.{refusal_number, table, next, fire_ahead, fuse_places};
-ghost use Rattle.theory.specs.Tests.{ahead_fits?, fusion_fits?};
+ghost use Rattle.theory.specs.Tests.{fusion_fits?};
 ghost use Rattle.books.proofs.Housing.{house_keeps, house_refuses};
 ghost use Rattle.books.proofs.Owning.{narrow};
 
@@ -31,9 +31,14 @@ use net::{Net, NetFault, SHEET_SIZE};
 use rewrites::{remove_place, write_marks};
 use theory::Refusal;
 
-// The questions of the step that fires a transition ahead of time.
-fn check_ahead(net: &Net<'_>, ahead: Ahead) -> Result<(), Refusal>
-    ensures { result ≡ judged (table (view net.now) (fire_ahead ahead.t ahead.k)) tt }
+// Fires a transition ahead of time, or refuses to. The last question of the table, whether all numbers are within their limits afterwards,
+// is answered by the marks: on a tidy sheet only a mark may be past them.
+fn fire(net: &mut Net<'_>, ahead: Ahead) -> Result<(), Refusal>
+    requires { length net.old.sheet.now ≡ 12352 }
+    ensures answer { result ≡ judged (table (view net.old) (fire_ahead ahead.t ahead.k)) tt }
+    ensures taken { IfOk result (λ _. view net.new ≡ next (view net.old) (fire_ahead ahead.t ahead.k)) }
+    ensures same { IfErr result (λ _. view net.new ≡ view net.old) }
+    ensures lent { SameSheet net.new net.old }
 {
     if !is_there(net, ahead.t) {
         return Err(Refusal::NoTransition);
@@ -50,9 +55,10 @@ fn check_ahead(net: &Net<'_>, ahead: Ahead) -> Result<(), Refusal>
     if !ahead.suffices_at(net, p) {
         return Err(Refusal::Marks);
     }
-    if !ahead.fits(net) {
+    let Some(marks) = ahead.marks(net) else {
         return Err(Refusal::PastLimit);
-    }
+    };
+    write_marks(net, &marks).unwrap();
     Ok(())
 }
 
@@ -79,15 +85,6 @@ fn check_fusion(net: &Net<'_>, fusion: Fusion) -> Result<(), Refusal>
         return Err(Refusal::PastLimit);
     }
     Ok(())
-}
-
-// Fires a transition k times.
-fn fire_times(net: &mut Net<'_>, ahead: Ahead) -> Result<(), NetFault>
-    requires { ahead_fits? (view net.old) ahead.t ahead.k ≡ true }
-    ensures exact { Leaves result (view net.new) (view net.old) (firing_ahead ahead.t ahead.k (view net.old)) }
-    ensures lent { SameSheet net.new net.old }
-{
-    write_marks(net, &ahead.marks(net))
 }
 
 // Adds the numbers of q to those of p in the marks and the first n rows of a sheet of the right size. The parts are numbered:
@@ -128,6 +125,19 @@ fn fuse_net(net: &mut Net<'_>, fusion: Fusion) -> Result<(), NetFault>
     remove_place(net, usize::from(fusion.q))
 }
 
+// Fuses two places, or refuses to.
+fn fuse(net: &mut Net<'_>, fusion: Fusion) -> Result<(), Refusal>
+    requires { length net.old.sheet.now ≡ 12352 }
+    ensures answer { result ≡ judged (table (view net.old) (fuse_places fusion.p fusion.q fusion.a fusion.b)) tt }
+    ensures taken { IfOk result (λ _. view net.new ≡ next (view net.old) (fuse_places fusion.p fusion.q fusion.a fusion.b)) }
+    ensures same { IfErr result (λ _. view net.new ≡ view net.old) }
+    ensures lent { SameSheet net.new net.old }
+{
+    check_fusion(net, fusion)?;
+    fuse_net(net, fusion).unwrap();
+    Ok(())
+}
+
 // The first bytes that this book owns.
 const FIRST: u8 = 0x2d;
 
@@ -136,29 +146,18 @@ const OWNED: Owned = Owned {
     last: 0x2e,
 };
 
-// The questions of a step of this book. A match here and in the rewrite: each step has operands of its own, and a closure for each would
-// be made in a match. Both ask that the step is the book's own, since one type of steps serves all books.
-fn check(net: &Net<'_>, step: Step<'_>) -> Result<(), Refusal>
-    requires { owns move_width (plain step) ≡ true }
-    ensures { result ≡ judged (table (view net.now) (plain step.entry)) tt }
-{
-    match step {
-        Step::FireAhead(t, k) => check_ahead(net, Ahead { t, k }),
-        Step::FusePlaces(p, q, a, b) => check_fusion(net, Fusion { p, q, a, b }),
-        _ => unreachable!(),
-    }
-}
-
-// Takes a step of this book whose questions have passed.
-fn rewrite(net: &mut Net<'_>, step: Step<'_>) -> Result<(), NetFault>
+// Takes a step of this book, or refuses it. It asks that the step is the book's own, since one type of steps serves all books.
+fn move_by(net: &mut Net<'_>, step: Step<'_>) -> Result<(), Refusal>
+    requires size { length net.old.sheet.now ≡ 12352 }
     requires own { owns move_width (plain step) ≡ true }
-    requires passes { Passes (table (view net.old) (plain step)) }
-    ensures exact { Leaves result (view net.new) (view net.old) (next (view net.old) (plain step.entry)) }
+    ensures answer { result ≡ judged (table (view net.old) (plain step.entry)) tt }
+    ensures taken { IfOk result (λ _. view net.new ≡ next (view net.old) (plain step.entry)) }
+    ensures same { IfErr result (λ _. view net.new ≡ view net.old) }
     ensures lent { SameSheet net.new net.old }
 {
     match step {
-        Step::FireAhead(t, k) => fire_times(net, Ahead { t, k }),
-        Step::FusePlaces(p, q, a, b) => fuse_net(net, Fusion { p, q, a, b }),
+        Step::FireAhead(t, k) => fire(net, Ahead { t, k }),
+        Step::FusePlaces(p, q, a, b) => fuse(net, Fusion { p, q, a, b }),
         _ => unreachable!(),
     }
 }
@@ -192,8 +191,7 @@ impl Book for Moves {
     fn take(&self, net: &mut Net<'_>, step: &[u8]) -> Result<(), MoveFault> {
         net.check_size()?;
         let step = OWNED.step(step)?;
-        check(net, step)?;
-        rewrite(net, step)?;
+        move_by(net, step)?;
         Ok(())
     }
 }

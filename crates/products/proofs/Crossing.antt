@@ -1,18 +1,51 @@
 -- The products of feeders and consumers, feeder by feeder, of lists alone.
-use Rattle.std.proofs.Common.{◌≡◌, ℕ, ◌+◌, ◌*◌, ◌<◌, ◌≤◌, Bool, true, List, [], ◌∷◌, ◌++◌, map, length, get_or, sym, ap, ◌∙◌, subst, append_assoc, append-nil, mul-le-mul_right, suc-mul, zero-mul, arith, length-append}
+use Rattle.std.proofs.Common.{take, get_or, add-one, ◌≡◌, ℕ, zero, suc, ◌+◌, ◌*◌, ◌<◌, ◌≤◌, Bool, true, false, cond, List, [], ◌∷◌, ◌++◌, map, length, sym, ap, ◌∙◌, append_assoc, append-nil, mul-le-mul_right, suc-mul, zero-mul, arith, length-append}
 use Rattle.std.proofs.lemmas.List.{length-map, map-append}
 use Rattle.std.proofs.lemmas.Simd.{map-map}
+use Rattle.std.specs.Int.{from_bool}
+use Rattle.std.proofs.Math.Seq.{take-suc}
 use Rattle.net.specs.Sheets.{Row, row_at}
 use Rattle.net.specs.States.{State}
 use Rattle.theory.specs.Tests.{those, feeders, consumers}
 use Rattle.theory.specs.Rewrites.{kept_rows, crossed, merging}
 use Rattle.std.proofs.lemmas.Nat.{mul-le}
-use Rattle.rewrites.proofs.Those.{those_at}
+use Rattle.rewrites.proofs.Those.{those_more}
 use Rattle.products.specs.Products.{numbers, apart?}
 
--- One of the numbers of which a test holds.
-pub turned : (keep : ℕ → Bool) (n k t : ℕ) → (k < length (those keep n)) × (t ≡ get_or (those keep n) k t) → (t < n) × (keep t ≡ true)
-turned keep n k t x = let y = those_at keep n k t x.0 in subst (λ u. (u < n) × (keep u ≡ true)) (sym x.1) (y.1, y.2)
+-- The numbers of which a test holds.
+module _ (keep : ℕ → Bool) where
+  one : (b : Bool) (n : ℕ) → length (cond b (n ∷ []) []) ≤ 1
+  one true n = omega arith
+  one false n = omega arith
+
+  pub at_most : (n : ℕ) → length (those keep n) ≤ n
+  at_most zero = omega arith
+  at_most (suc n) =
+      omega (
+        arith,
+        at_most n,
+        ap (λ k. length (those keep k)) (sym (add-one n)),
+        ap length (those_more keep n),
+        length-append (those keep n) (cond (keep n) (n ∷ []) []),
+        one (keep n) n,
+      )
+
+  one_kept : (n : ℕ) → keep n ≡ true → those keep (n + 1) ≡ those keep n ++ n ∷ []
+  one_kept n e = those_more keep n ∙ ap (λ (b : Bool). those keep n ++ cond b (n ∷ []) []) e
+
+  one_left : (n : ℕ) → keep n ≡ false → those keep (n + 1) ≡ those keep n
+  one_left n e = those_more keep n ∙ ap (λ (b : Bool). those keep n ++ cond b (n ∷ []) []) e ∙ append-nil (those keep n)
+
+  -- How many they are, with one number more.
+  pub counted_more : (n k x : ℕ) (b : Bool) → (k ≡ length (those keep n)) × (k ≤ n) → x ≡ from_bool b → b ≡ keep n
+      → (k + x ≡ length (those keep (n + 1))) × (k + x ≤ n + 1)
+  counted_more n k x true h e d =
+      (omega (arith, h.0, e, ap length (one_kept n (sym d)), length-append (those keep n) (n ∷ [])), omega (arith, h.1, e))
+  counted_more n k x false h e d = (omega (arith, h.0, e, ap length (one_left n (sym d))), omega (arith, h.1, e))
+
+-- One more number of a list is taken.
+pub more_taken : (xs : List ℕ) (i : ℕ) → i < length xs → take (i + 1) xs ≡ take i xs ++ get_or xs i 0 ∷ []
+more_taken xs i h = ap (λ n. take n xs) (add-one i) ∙ take-suc xs i 0 h
 
 -- One more feeder.
 crossed_push : (f : ℕ → ℕ → Row) (hs : List ℕ) (h : ℕ) (gs : List ℕ) → crossed f (hs ++ h ∷ []) gs ≡ crossed f hs gs ++ map (f h) gs
@@ -27,8 +60,8 @@ length_crossed f (x ∷ xs) gs =
 
 -- The numbers of their rows: room for those of one more feeder, and with them.
 module _ (f : ℕ → ℕ → Row) (gs hs : List ℕ) (h : ℕ) where
-  pub crossed_room : (n : ℕ) → length hs < n → n * length gs ≤ 32 → length (map numbers (crossed f hs gs)) + length gs ≤ 32
-  crossed_room n l most =
+  pub crossed_room : (n room : ℕ) → length hs < n → n * length gs ≤ room → length (map numbers (crossed f hs gs)) + length gs ≤ room
+  crossed_room n room l most =
       omega (arith, length-map (crossed f hs gs) numbers, length_crossed f hs gs, mul-le-mul_right (length gs) l, suc-mul (length hs) (length gs))
 
   pub crossed_more : map numbers (crossed f hs gs) ++ map (λ g. numbers (f h g)) gs ≡ map numbers (crossed f (hs ++ h ∷ []) gs)

@@ -1,12 +1,10 @@
 -- The limits of the products, asked of the lists of feeders and consumers, and of the numbers of a row.
-use Rattle.std.proofs.Common.{◌≡◌, ℕ, ◌+◌, ◌-◌, ◌<◌, ◌≤◌, Bool, true, false, cond, ◌&&◌, ◌⊎◌, leb, List, [], ◌∷◌, ◌++◌, Option, Some, None, append_assoc, map, length, filter, get_or, inl, inr, refl, sym, ap, ◌∙◌, subst, arith}
+use Rattle.std.proofs.Common.{◌≡◌, ℕ, ◌+◌, ◌-◌, ◌<◌, ◌≤◌, Bool, true, false, cond, ◌&&◌, ◌⊎◌, leb, List, [], ◌∷◌, ◌++◌, filter, inl, inr, refl, ap, ◌∙◌, subst, arith}
 use mathlib.Core.Path.{fun_ext}
 use Rattle.std.specs.List.{range_with_len, list_all}
 use Rattle.std.proofs.lemmas.Bool.{cases_lt, lt-ltb, le-ltb}
 use Rattle.std.proofs.lemmas.Bool.Decides.{same_from_decides}
-use Rattle.std.proofs.lemmas.List.Folds.{list_all-map, list_all-append, list_all_at}
-use Rattle.std.proofs.lemmas.List.{map-append}
-use Rattle.std.proofs.lemmas.Option.{none-some}
+use Rattle.std.proofs.lemmas.List.Folds.{list_all-map, list_all-append}
 use Rattle.net.specs.Sheets.{Row, number, most_weight}
 use Rattle.net.specs.States.{State}
 use Rattle.theory.specs.Tests.{◌⇒◌, every, those, feeder?, consumer?, feeders, consumers, products_fit?}
@@ -59,21 +57,6 @@ numbers_fit r =
     list_all-map (λ w. leb w 65535) (number r) (range_with_len 0 128)
     ∙ same_from_decides _ _ (every_says 128 _ _ (λ j _. leb_says (number r j) most_weight)) (numbers_say r)
 
--- One more of which the test holds, and one of which it fails.
+-- One more of which the test holds.
 pub all_more : (g : ℕ → Bool) (xs : List ℕ) (x : ℕ) → list_all g xs ≡ true → g x ≡ true → list_all g (xs ++ x ∷ []) ≡ true
 all_more g xs x a b = list_all-append g xs (x ∷ []) ∙ rw (a, b) refl
-
-pub not_all : (g keep : ℕ → Bool) (n k x : ℕ) → (k < length (those keep n)) × (x ≡ get_or (those keep n) k x) → g x ≡ false → list_all g (those keep n) ≡ false
-not_all g keep n k x at h = list_all_at g (those keep n) k x at.0 (ap g (sym at.1) ∙ h)
-
--- A row that is not given.
-pub row_missing : (b : Bool) (xs : List ℕ) → ◌≡◌ {A = Option (List ℕ)} None (cond b (Some xs) None) → b ≡ false
-row_missing true xs e = absurd (none-some xs e)
-row_missing false xs e = refl
-
--- One more row behind others.
-pub mapped_more : (f : ℕ → List ℕ) (rs : List (List ℕ)) (gs : List ℕ) (g : ℕ) (r : List ℕ) (all : List (List ℕ)) → all ≡ rs ++ map f gs → r ≡ f g
-    → all ++ r ∷ [] ≡ rs ++ map f (gs ++ g ∷ [])
-mapped_more f rs gs g r all e d =
-    ap (λ l. l ++ r ∷ []) e ∙ ap (λ x. (rs ++ map f gs) ++ x ∷ []) d ∙ append_assoc rs (map f gs) (f g ∷ [])
-    ∙ ap (λ l. rs ++ l) (sym (map-append f gs (g ∷ [])))

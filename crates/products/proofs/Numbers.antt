@@ -1,5 +1,6 @@
 -- The numbers of rows, and of their products, by the part in which they stand.
-use Rattle.std.proofs.Common.{◌≡◌, ℕ, ◌+◌, ◌-◌, ◌*◌, ◌/◌, ◌<◌, ◌≤◌, ◌⊎◌, List, length, take as upto, drop, get_or, inl, inr, ap, ◌∙◌, arith}
+use Rattle.std.proofs.Common.{◌≡◌, ℕ, ◌+◌, ◌-◌, ◌*◌, ◌/◌, ◌<◌, ◌≤◌, cond, ◌&&◌, eqb, ltb, ◌⊎◌, List, length, take as upto, drop, get_or, set, inl, inr, sym, ap, ◌∙◌, arith, get_or-set_same, get_or-set_other}
+use Rattle.std.proofs.lemmas.Bool.Decides.{nat_tests}
 use Rattle.std.proofs.lemmas.Bool.{cases_lt, lt-ltb, le-ltb}
 use Rattle.std.proofs.lemmas.List.{get_or-take, get_or-drop}
 use Rattle.net.specs.Sheets.{row_at, number}
@@ -43,3 +44,24 @@ pub chunk_at : (xs ys : List ℕ) (a k t j : ℕ) → length xs ≡ 12352 → t 
 chunk_at xs ys a k t j whole few start rest same l =
     ap (λ zs. get_or zs j 0) same ∙ get_or-take 128 (upto k (drop a xs)) j 0 l ∙ get_or-take k (drop a xs) j 0 (omega arith)
     ∙ get_or-drop a xs j 0 ∙ ap (λ i. get_or xs i 0) (omega arith)
+
+-- A number outside p is written as 0 where its half has p, in the half of the puts and in that of the takes.
+pub put_outside : (h p j : ℕ) → 64 ≤ j → j < 128 → cond (ltb p 64 && eqb j (64 + p)) 0 h ≡ cond (eqb (j - 64) p) 0 h
+put_outside h p j g l = grind (arith, nat_tests)
+
+pub take_outside : (h p j : ℕ) → j < 64 → cond (ltb p 64 && eqb j (0 + p)) 0 h ≡ cond (eqb j p) 0 h
+take_outside h p j l = grind (arith, nat_tests)
+
+-- A number is written behind those of a row that have been written.
+module _ (row : List ℕ) (f : ℕ → ℕ) (j v : ℕ) (h : j < length row) where
+  pub written_below : ((k : ℕ) → k < j → get_or row k 0 ≡ f k) → v ≡ f j → (k : ℕ) → k < j + 1 → get_or (set row j v) k 0 ≡ f k
+  written_below below here k l = go (cases_lt k j)
+    where
+      go : (k < j) ⊎ (j ≤ k) → get_or (set row j v) k 0 ≡ f k
+      go (inl a) = get_or-set_other row j k v 0 (λ e. absurd (omega arith)) ∙ below k a
+      go (inr a) =
+          let same : k ≡ j = omega arith in
+          ap (λ i. get_or (set row j v) i 0) same ∙ get_or-set_same row j v 0 h ∙ here ∙ ap f (sym same)
+
+  pub written_above : (k : ℕ) → j + 1 ≤ k → get_or (set row j v) k 0 ≡ get_or row k 0
+  written_above k l = get_or-set_other row j k v 0 (λ e. absurd (omega arith))

@@ -11,6 +11,7 @@ use Rattle.theory.specs.Rewrites.{rewritten, kept_rows, merging, post_row, pre_r
 use Rattle.products.specs.declared.pairs.Kind.{Kind}
 use Rattle.products.specs.declared.pairs.Kind.TheVariants.{Post, Pre}
 use Rattle.products.specs.declared.pairs.Pair.{Pair}
+use Rattle.products.specs.declared.tally.Tally.{Tally}
 
 -- The product of feeder `h` and consumer `f` of place `p`.
 abbrev pub product_row : Kind → State → ℕ → ℕ → ℕ → Row
@@ -69,6 +70,13 @@ merge_table k p s = room_table k p s ++ BadWeight unless products_fit? s p (prod
 -- So there is room for them.
 abbrev pub Roomy : Kind → ℕ → State → Type 0
 Roomy k p s = ◌≡◌ {A = Result Unit NetFault} (Ok tt) (judged (room_table k p s) tt)
+
+-- A tally of the transitions lists the feeders and the consumers of `p`, and says how many there are after an agglomeration.
+pub record Tallied (t : Tally) (p : ℕ) (s : State) : Type 0 where
+  pub feeding : t.feeders.items ≡ feeders s p
+  pub consuming : t.consumers.items ≡ consumers s p
+  pub few : t.rest ≤ 96
+  pub after : (product : ℕ → ℕ → Row) → t.rest + length (feeders s p) * length (consumers s p) ≡ (merging product p s).transitions
 
 abbrev pub merged : Kind → ℕ → State → Result State NetFault
 merged k p s = judged (merge_table k p s) (merging (product_row k s p) p s)

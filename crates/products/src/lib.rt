@@ -10,83 +10,76 @@ ghost use Rattle.net.specs.States.{view, Answered};
 ghost use Rattle.theory.specs.Rewrites.{kept_rows, crossed, merging};
 ghost use Rattle.theory.specs.Tests.{those, feeders, consumers, products_fit?};
 ghost use Rattle.products.specs.declared.pairs.Kind.{Kind};
-ghost use Rattle.products.specs.Products.{product_row, numbers, consumers_fit?, apart?, replacing, room_table, Roomy, merged};
+ghost use Rattle.products.specs.Products.{product_row, numbers, consumers_fit?, apart?, replacing, room_table, Roomy, Tallied, merged};
 ghost use Rattle.arrayvec.specs.ArrayVec.{array_vec_len};
 
 mod apart;
+mod counts;
 mod pairs;
+mod tally;
 mod weights;
 
 pub use apart::Apart;
 use arrayvec::ArrayVec;
-use checks::{Touches, count, put_of, take_of, transitions};
-use net::{MOST_PLACES, MOST_TRANSITIONS, Net, NetFault, ROW_SIZE, Side};
+pub use counts::{Counts, count_by_place};
+use net::{MOST_PLACES, MOST_TRANSITIONS, Net, NetFault, ROW_SIZE};
 pub use pairs::{Kind, Pair};
 use rewrites::{append_rows, keep_where};
+use tally::{Tally, tally_of};
 
 // The most products of an agglomeration.
 pub const MOST_PRODUCTS: usize = 32;
 
-// Their rows.
-type Rows = ArrayVec<[u16; ROW_SIZE], MOST_PRODUCTS>;
+// The rows of at most N products.
+type Rows<const N: usize> = ArrayVec<[u16; ROW_SIZE], N>;
 
 // Appends the products of feeder h and each consumer of p, unless one is past the limit. Each is pushed, since a push with room cannot
 // fail: `extend` may refuse for want of room.
-fn push_products(net: &Net<'_>, kind: Kind, p: u8, h: u8, rows: &mut Rows) -> Option<()>
-    requires { (length net.now.sheet.now ≡ 12352) × (h < 96) × (array_vec_len rows.old + length (consumers (view net.now) p) ≤ 32) }
+fn push_products<const N: usize>(
+    net: &Net<'_>,
+    kind: Kind,
+    p: u8,
+    h: u8,
+    consuming: &[u8],
+    rows: &mut Rows<N>,
+) -> Option<()>
+    requires { (length net.now.sheet.now ≡ 12352) × (h < 96) × (consuming.now ≡ consumers (view net.now) p) × (array_vec_len rows.old + length (consumers (view net.now) p) ≤ N) × (N ≤ 32) }
     ensures { MatchOption result (consumers_fit? kind (view net.now) p h (consumers (view net.now) p) ≡ false) (λ _. (consumers_fit? kind (view net.now) p h (consumers (view net.now) p) ≡ true) × (rows.new.items ≡ rows.old.items ++ map (λ f. numbers (product_row kind (view net.now) p h f)) (consumers (view net.now) p))) }
 {
-    for f in transitions(net).filter(|f| take_of(net, *f, p) > 0) {
+    for i in 0..consuming.len() {
+        let f = consuming[i];
         rows.push(Pair { kind, p, h, f }.row(net)?);
     }
     Some(())
 }
 
 // Appends the products of all feeders and consumers of p, unless one is past the limit.
-fn push_all(net: &Net<'_>, kind: Kind, p: u8, rows: &mut Rows) -> Option<()>
-    requires { Roomy kind p (view net.now) × (rows.old.items ≡ []) }
+fn push_all<const N: usize>(
+    net: &Net<'_>,
+    kind: Kind,
+    p: u8,
+    feeding: &[u8],
+    consuming: &[u8],
+    rows: &mut Rows<N>,
+) -> Option<()>
+    requires { (length net.now.sheet.now ≡ 12352) × (feeding.now ≡ feeders (view net.now) p) × (consuming.now ≡ consumers (view net.now) p) × (length (feeders (view net.now) p) * length (consumers (view net.now) p) ≤ N) × (N ≤ 32) × (rows.old.items ≡ []) }
     ensures { MatchOption result (products_fit? (view net.now) p (product_row kind (view net.now) p) ≡ false) (λ _. (products_fit? (view net.now) p (product_row kind (view net.now) p) ≡ true) × (rows.new.items ≡ map numbers (crossed (product_row kind (view net.now) p) (feeders (view net.now) p) (consumers (view net.now) p)))) }
 {
-    for h in transitions(net).filter(|h| put_of(net, *h, p) > 0) {
-        push_products(net, kind, p, h, rows)?;
+    for i in 0..feeding.len() {
+        push_products(net, kind, p, feeding[i], consuming, rows)?;
     }
     Some(())
 }
 
-// How many products there are: the feeders of p times its consumers.
-#[tactic(auto, using(crate::proofs::Crossing::few_pairs))]
-pub fn pair_count(net: &Net<'_>, p: u8) -> usize
-    ensures count { result ≡ length (feeders (view net.now) p) * length (consumers (view net.now) p) }
-    ensures few { result ≤ 9216 }
-{
-    let feeds = Touches {
-        side: Side::Puts,
-        p,
-    };
-    let consumes = Touches {
-        side: Side::Takes,
-        p,
-    };
-    count(net, &feeds) * count(net, &consumes)
-}
-
-// How many transitions leave p alone: with the products, these are there after an agglomeration at p, whatever the products are.
-pub fn rest_count(net: &Net<'_>, p: u8) -> usize
-    ensures count { result ≡ length (those (apart? (view net.now) p) (view net.now).transitions) }
-    ensures few { result ≤ 96 }
-    ensures after { (product : ℕ → ℕ → Row) → result + length (feeders (view net.now) p) * length (consumers (view net.now) p) ≡ (merging product p (view net.now)).transitions }
-{
-    count(net, &Apart { p })
-}
-
-// Is there room for the products of the feeders and consumers of p? The third house book asks this before, with refusals of its own;
-// it is asked again here, since no public call relies on its caller.
-fn check_room(net: &Net<'_>, p: u8) -> Result<(), NetFault>
+// Is there room for the products of the feeders and consumers of p, of which this is the tally? The third house book asks this before,
+// with refusals of its own; it is asked again here, since no public call relies on its caller.
+fn check_room(net: &Net<'_>, p: u8, tally: &Tally) -> Result<(), NetFault>
+    requires { Tallied tally.now p (view net.now) }
     ensures { (kind : Kind) → result ≡ judged (room_table kind p (view net.now)) tt }
 {
     net.check_size()?;
-    let pairs = pair_count(net, p);
-    if pairs > MOST_PRODUCTS || rest_count(net, p) + pairs > MOST_TRANSITIONS {
+    let pairs = tally.feeders.len() * tally.consumers.len();
+    if pairs > MOST_PRODUCTS || tally.rest + pairs > MOST_TRANSITIONS {
         return Err(NetFault::TooManyTransitions);
     }
     Ok(())
@@ -118,13 +111,33 @@ fn replace_rows(net: &mut Net<'_>, p: u8, rows: &[[u16; ROW_SIZE]]) -> Result<()
     Ok(())
 }
 
-// Replaces the feeders and consumers of p by their products, and lets p go.
+// Replaces the feeders and consumers of p by their products, of which there are at most N, and lets p go.
+fn merge_within<const N: usize>(
+    net: &mut Net<'_>,
+    kind: Kind,
+    p: u8,
+    tally: &Tally,
+) -> Result<(), NetFault>
+    requires { Tallied tally.now p (view net.old) × Roomy kind p (view net.old) × (length (feeders (view net.old) p) * length (consumers (view net.old) p) ≤ N) × (N ≤ 32) }
+    ensures exact { Answered result (view net.new) (view net.old) (merged kind p (view net.old)) }
+    ensures lent { SameSheet net.new net.old }
+{
+    let mut rows = ArrayVec::<_, N>::new();
+    push_all(net, kind, p, &tally.feeders, &tally.consumers, &mut rows).ok_or(NetFault::BadWeight)?;
+    replace_rows(net, p, &rows)
+}
+
+// Replaces the feeders and consumers of p by their products, and lets p go. A single product is made in a list of one row, since a list
+// is cleared before it is filled.
 pub fn merge(net: &mut Net<'_>, kind: Kind, p: u8) -> Result<(), NetFault>
     ensures exact { Answered result (view net.new) (view net.old) (merged kind p (view net.old)) }
     ensures lent { SameSheet net.new net.old }
 {
-    check_room(net, p)?;
-    let mut rows = ArrayVec::new();
-    push_all(net, kind, p, &mut rows).ok_or(NetFault::BadWeight)?;
-    replace_rows(net, p, &rows)
+    let tally = tally_of(net, p);
+    check_room(net, p, &tally)?;
+    if tally.feeders.len() * tally.consumers.len() > 1 {
+        merge_within::<MOST_PRODUCTS>(net, kind, p, &tally)
+    } else {
+        merge_within::<1>(net, kind, p, &tally)
+    }
 }

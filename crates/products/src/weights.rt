@@ -1,5 +1,5 @@
 // The row of a product, of the rows of its feeder and its consumer.
-ghost use Rattle.std.specs.Prelude.{◌≡◌, ℕ, ◌+◌, ◌-◌, ◌*◌, ◌/◌, ◌<◌, ◌≤◌, Some, None, length, if◌then◌else◌, nat_eq, nat_lt, nat_le, slice_index};
+ghost use Rattle.std.specs.Prelude.{◌≡◌, ℕ, ◌+◌, ◌-◌, ◌*◌, ◌/◌, ◌<◌, ◌≤◌, Some, None, length, if◌then◌else◌, ◌&&◌, nat_eq, nat_lt, nat_le, slice_index};
 ghost use Rattle.net.specs.Sheets.{number, row_at};
 ghost use Rattle.net.specs.States.{view, take, put};
 ghost use Rattle.std.specs.List.{list_all};
@@ -19,33 +19,21 @@ fn row_of<'a>(net: &'a Net<'_>, t: u8) -> &'a [u32; ROW_SIZE]
     net.sheet[Side::Takes.base(t)..].first_chunk().unwrap()
 }
 
-// A weight at q, or 0 where q is p.
-fn outside(p: usize, q: usize, weight: u32) -> u32
-    ensures { result ≡ (if nat_eq q p then 0 else weight) }
+// A row with 0 at p, in its half that begins at `from`.
+fn outside(row: &[u32; ROW_SIZE], from: usize, p: usize) -> [u32; ROW_SIZE]
+    requires { from ≤ 64 }
+    ensures { (j : ℕ) → slice_index result j ≡ (if nat_lt p 64 && nat_eq j (from + p) then 0 else slice_index row.now j) }
 {
-    if q == p { 0 } else { weight }
-}
-
-// A number of a product of post-agglomeration: what the feeder takes, then what it puts outside p and the consumer's puts as often as
-// the factor says. The sum has 32 bits, since weights have 16.
-fn post_number(
-    feeder: &[u32; ROW_SIZE],
-    consumer: &[u32; ROW_SIZE],
-    p: usize,
-    factor: u32,
-    j: usize,
-) -> u32
-    requires { (j < 128) × Weights feeder.now × Weights consumer.now × (factor ≤ 65535) }
-    ensures { result ≡ post_number (slice_index feeder.now j) (slice_index consumer.now j) p factor j }
-{
-    if j < MOST_PLACES {
-        feeder[j]
-    } else {
-        outside(p, j - MOST_PLACES, feeder[j]) + factor * consumer[j]
+    let mut rest = *row;
+    if p < MOST_PLACES {
+        rest[from + p] = 0;
     }
+    rest
 }
 
-// The row of a product of post-agglomeration, with weights of any size.
+// The row of a product of post-agglomeration, with weights of any size: what the feeder takes, then what it puts outside p and the
+// consumer's puts as often as the factor says. The sums have 32 bits, since weights have 16. Here and below the loop has no branch, so
+// that the compiler takes several numbers at once.
 fn post_row(
     feeder: &[u32; ROW_SIZE],
     consumer: &[u32; ROW_SIZE],
@@ -55,27 +43,24 @@ fn post_row(
     requires { Weights feeder.now × Weights consumer.now × (factor ≤ 65535) }
     ensures { (j : ℕ) → j < 128 → slice_index result j ≡ post_number (slice_index feeder.now j) (slice_index consumer.now j) p factor j }
 {
-    array::from_fn(|j| post_number(feeder, consumer, p, factor, j))
-}
-
-// A number of a product of pre-agglomeration: what the feeder takes and the consumer takes outside p, then what the consumer puts.
-fn pre_number(feeder: &[u32; ROW_SIZE], consumer: &[u32; ROW_SIZE], p: usize, j: usize) -> u32
-    requires { (j < 128) × Weights feeder.now × Weights consumer.now }
-    ensures { result ≡ pre_number (slice_index feeder.now j) (slice_index consumer.now j) p j }
-{
-    if j < MOST_PLACES {
-        feeder[j] + outside(p, j, consumer[j])
-    } else {
-        consumer[j]
+    let mut row = outside(feeder, MOST_PLACES, p);
+    for j in MOST_PLACES..ROW_SIZE {
+        row[j] += factor * consumer[j];
     }
+    row
 }
 
-// The row of a product of pre-agglomeration, with weights of any size.
+// The row of a product of pre-agglomeration, with weights of any size: what the feeder takes and the consumer takes outside p, then what
+// the consumer puts.
 fn pre_row(feeder: &[u32; ROW_SIZE], consumer: &[u32; ROW_SIZE], p: usize) -> [u32; ROW_SIZE]
     requires { Weights feeder.now × Weights consumer.now }
     ensures { (j : ℕ) → j < 128 → slice_index result j ≡ pre_number (slice_index feeder.now j) (slice_index consumer.now j) p j }
 {
-    array::from_fn(|j| pre_number(feeder, consumer, p, j))
+    let mut row = outside(consumer, 0, p);
+    for j in 0..MOST_PLACES {
+        row[j] += feeder[j];
+    }
+    row
 }
 
 // A weight of a row in 16 bits, where none is past the limit.
@@ -95,11 +80,22 @@ fn narrow(row: &[u32; ROW_SIZE]) -> [u16; ROW_SIZE]
     array::from_fn(|j| weight_at(row, j))
 }
 
+// Is no weight of a row past the limit? All are tested, so that the compiler takes several at once.
+fn are_limited(row: &[u32; ROW_SIZE]) -> bool
+    ensures { result ≡ list_all (λ w. nat_le w 65535) row.now }
+{
+    let mut limited = true;
+    for weight in row {
+        limited &= *weight <= MOST_WEIGHT;
+    }
+    limited
+}
+
 // The same row in 16 bits, if no weight is past the limit.
 fn limited(row: &[u32; ROW_SIZE]) -> Option<[u16; ROW_SIZE]>
     ensures { result ≡ (if list_all (λ w. nat_le w 65535) row.now then Some row.now else None) }
 {
-    if row.iter().all(|weight| *weight <= MOST_WEIGHT) {
+    if are_limited(row) {
         Some(narrow(row))
     } else {
         None

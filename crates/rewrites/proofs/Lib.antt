@@ -1,5 +1,6 @@
 pub mod Appending
 pub mod Closing
+pub mod Copying
 pub mod Keeping
 mod Limiting
 pub mod Marking

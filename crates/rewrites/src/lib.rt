@@ -13,9 +13,9 @@ ghost use Rattle.rewrites.specs.Rows.{limited_to, Closed, Kept, Limited};
 mod marks;
 mod rows;
 
-use checks::{Test, Transition, flags, is_member};
+use checks::{Test, Transition, flags, flags_of};
 pub use marks::write_marks;
-use net::{MOST_PLACES, MOST_TRANSITIONS, Net, NetFault, Side};
+use net::{MOST_PLACES, MOST_TRANSITIONS, Net, NetFault, ROW_SIZE, Side};
 pub use rows::append_rows;
 use std::array;
 use std::ops::Range;
@@ -34,7 +34,8 @@ fn row_at(t: usize) -> Range<usize>
     from..from + 2 * MOST_PLACES
 }
 
-// Copies a row over an earlier one; a row that is to stay where it is needs no copy.
+// Copies a row over an earlier one; a row that is to stay where it is needs no copy. It is this copy between two parts and not
+// `copy_within`, since the compiler makes one move of it.
 fn copy_row(sheet: &mut [u32], from: usize, to: usize)
     requires { (length sheet.old ≡ 12352) × ((from < 96) × (to ≤ from)) }
     ensures row { (j : ℕ) → j < 128 → slice_index sheet.new (64 + 128 * to + j) ≡ slice_index sheet.old (64 + 128 * from + j) }
@@ -43,7 +44,8 @@ fn copy_row(sheet: &mut [u32], from: usize, to: usize)
     ensures size { length sheet.new ≡ 12352 }
 {
     if to < from {
-        sheet.copy_within(row_at(from), row_at(to).start);
+        let (front, back) = sheet.split_at_mut(row_at(from).start);
+        front[row_at(to)].copy_from_slice(&back[..ROW_SIZE]);
     }
 }
 
@@ -106,14 +108,24 @@ fn keep_row(sheet: &mut [u32], n: usize, t: usize) -> usize
     1
 }
 
+// Moves each number of a part of a sheet down by one row. It is this loop and not `copy_within`, since the compiler makes one move of it.
+fn move_down(part: &mut [u32])
+    requires { 128 ≤ length part.old }
+    ensures moved { (i : ℕ) → i + 128 < length part.old → slice_index part.new i ≡ slice_index part.old (i + 128) }
+    ensures size { length part.new ≡ length part.old }
+{
+    for i in 0..part.len() - ROW_SIZE {
+        part[i] = part[i + ROW_SIZE];
+    }
+}
+
 // Moves the rows behind row t down by one row; the last row becomes 0.
 fn drop_row(sheet: &mut [u32], n: usize, t: usize)
     requires { (length sheet.old ≡ 12352) × ((n ≤ 96) × (t < n)) }
     ensures kept { Kept sheet.old sheet.new (those (λ v. not (v == t)) n) n }
     ensures size { length sheet.new ≡ 12352 }
 {
-    let end = row_at(n).start;
-    sheet.copy_within(row_at(t).end..end, row_at(t).start);
+    move_down(&mut sheet[row_at(t).start..row_at(n).start]);
     wipe_rows(sheet, n - 1, n);
 }
 
@@ -148,14 +160,6 @@ fn limit_parts(sheet: &mut [u32], n: usize, stays: &[bool; MOST_PLACES])
         let from = MOST_PLACES * part;
         limit_part(&mut sheet[from..from + MOST_PLACES], stays);
     }
-}
-
-// The flags of the places in a set.
-fn flags_of(set: &[u8; 8]) -> [bool; MOST_PLACES]
-    ensures { (p : ℕ) → p < 64 → slice_index_or result p false ≡ member set.now p }
-{
-    // No `try_from`, since the cast loses nothing: p is less than 64.
-    array::from_fn(|p| is_member(set, p as u8))
 }
 
 // The flags of the places that stand and stay.

@@ -1,1 +1,2 @@
 pub mod Limiting
+pub mod Flagging

@@ -2,29 +2,23 @@
 ghost use Rattle.std.specs.Prelude.{◌≡◌, ℕ, Bool, not};
 ghost use Rattle.net.specs.States.{view};
 ghost use Rattle.sets.specs.Sets.{touches?};
-ghost use Rattle.theory.specs.Tests.{member, takes_from?, siphon?, dry?, outside, falls?, sufficient?, holds_support?, members_stand?, has_member?};
+ghost use Rattle.checks.specs.Alone.{flagged};
+ghost use Rattle.theory.specs.Tests.{◌⇒◌, every_transition, member, takes_from?, siphon?, dry?, falls?, sufficient?, holds_support?, members_stand?, has_member?};
 
 use checks::{
-    Test, Transition, is_member, mark_of, places, put_of, stands_at, supports_at, take_of,
-    transitions, weight_of,
+    Test, Transition, flags_of, flags_outside, is_member, mark_of, places, put_of, spares,
+    stands_at, supports_at, take_of, transitions,
 };
-use net::{Net, Side};
+use net::{MOST_PLACES, Net, Side};
 
-// Does t touch the set on this side?
-#[tactic(auto, unfolding(theory::specs::Tests::some))]
-fn touches(net: &Net<'_>, side: Side, set: &[u8; 8], t: u8) -> bool
-    ensures { result ≡ touches? side (view net.now) (member set.now) t }
-{
-    places().any(|p| weight_of(net, side, t, p) > 0 && is_member(set, p))
-}
+// A set is asked of many transitions, so that its flags are made once.
 
-// Does t take from outside the set? This stays apart: a closure or a flag for inside and outside would have to stand in the contract of one
-// function for both, which would be longer than this one.
-#[tactic(auto, unfolding(theory::specs::Tests::some))]
-fn takes_outside(net: &Net<'_>, set: &[u8; 8], t: u8) -> bool
-    ensures { result ≡ takes_from? (view net.now) (outside (member set.now)) t }
+// Does t touch a flagged place on this side?
+#[tactic(auto, using(crate::proofs::Flagging::not_spared))]
+fn touches(net: &Net<'_>, side: Side, flags: &[bool; MOST_PLACES], t: u8) -> bool
+    ensures { result ≡ touches? side (view net.now) (flagged flags.now) t }
 {
-    places().any(|p| take_of(net, t, p) > 0 && !is_member(set, p))
+    !spares(net, side, t, flags)
 }
 
 // Do all places of the set stand?
@@ -43,12 +37,20 @@ pub(crate) fn has_member(set: &[u8; 8]) -> bool
     places().any(|p| is_member(set, p))
 }
 
-// Does every transition that puts into the set take from it?
+// Does every transition that puts into a flagged place take from one?
 #[tactic(auto, unfolding(theory::specs::Tests::every))]
+fn is_flagged_siphon(net: &Net<'_>, flags: &[bool; MOST_PLACES]) -> bool
+    ensures { result ≡ siphon? (view net.now) (flagged flags.now) }
+{
+    transitions(net).all(|t| !touches(net, Side::Puts, flags, t)
+        || touches(net, Side::Takes, flags, t))
+}
+
+// Does every transition that puts into the set take from it?
 pub(crate) fn is_siphon(net: &Net<'_>, set: &[u8; 8]) -> bool
     ensures { result ≡ siphon? (view net.now) (member set.now) }
 {
-    transitions(net).all(|t| !touches(net, Side::Puts, set, t) || touches(net, Side::Takes, set, t))
+    is_flagged_siphon(net, &flags_of(set))
 }
 
 // Is the mark of each place of the set 0?
@@ -79,43 +81,34 @@ fn falls(net: &Net<'_>, set: &[u8; 8], t: u8) -> bool
     })
 }
 
-// Does every transition that takes from outside the set fall?
+// Does every transition that takes from a flagged place fall?
 #[tactic(auto, unfolding(theory::specs::Tests::every))]
+fn fall_outside(net: &Net<'_>, set: &[u8; 8], outside: &[bool; MOST_PLACES]) -> bool
+    ensures { result ≡ every_transition (view net.now) (λ t. takes_from? (view net.now) (flagged outside.now) t ⇒ falls? (view net.now) (member set.now) t) }
+{
+    transitions(net).all(|t| !touches(net, Side::Takes, outside, t) || falls(net, set, t))
+}
+
+// Does every transition that takes from outside the set fall?
 pub(crate) fn is_sufficient(net: &Net<'_>, set: &[u8; 8]) -> bool
     ensures { result ≡ sufficient? (view net.now) (member set.now) }
 {
-    transitions(net).all(|t| !takes_outside(net, set, t) || falls(net, set, t))
+    fall_outside(net, set, &flags_outside(set))
 }
 
-// Does the transition take nothing from the set? This and the next are tests like the others, so that one rewrite serves all: its
-// contract names what a test means, where of a closure it could only say what its calls answered.
+// Does the transition take nothing from the flagged places? It is a test like others, so that one rewrite serves all: its contract names
+// what a test means, where of a closure it could only say what its calls answered.
 #[derive(Clone, Copy, Debug, PartialEq, Eq)]
-pub(crate) struct Spares<'a> {
-    pub set: &'a [u8; 8],
+pub(crate) struct TakesNone<'a> {
+    pub flags: &'a [bool; MOST_PLACES],
 }
 
-impl Test for Spares<'_> {
+impl Test for TakesNone<'_> {
     type Of = Transition;
 
-    ghost holds = { λ x s t. not (takes_from? s (member x.set.now) t) };
+    ghost holds = { λ x s t. not (takes_from? s (flagged x.flags.now) t) };
 
     fn test(&self, net: &Net<'_>, t: u8) -> bool {
-        !touches(net, Side::Takes, self.set, t)
-    }
-}
-
-// Does the transition take from the set alone?
-#[derive(Clone, Copy, Debug, PartialEq, Eq)]
-pub(crate) struct StaysInside<'a> {
-    pub set: &'a [u8; 8],
-}
-
-impl Test for StaysInside<'_> {
-    type Of = Transition;
-
-    ghost holds = { λ x s t. not (takes_from? s (outside (member x.set.now)) t) };
-
-    fn test(&self, net: &Net<'_>, t: u8) -> bool {
-        !takes_outside(net, self.set, t)
+        !touches(net, Side::Takes, self.flags, t)
     }
 }

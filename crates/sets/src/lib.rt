@@ -1,7 +1,7 @@
 // The second house book: steps that name a set of places.
 #![tactic(auto)]
 
-ghost use Rattle.std.specs.Prelude.{◌≡◌, true, refl};
+ghost use Rattle.std.specs.Prelude.{◌≡◌, true, not, refl};
 ghost use Rattle.net.specs.Views.{SameSheet};
 ghost use Rattle.net.specs.Refusals.{judged, Passes};
 ghost use Rattle.net.specs.Looks.{Leaves};
@@ -9,9 +9,9 @@ ghost use Rattle.net.specs.States.{view};
 ghost use Rattle.books.specs.Faults.{book_number, from_net, from_bytes, from_step};
 ghost use Rattle.books.specs.House.{plain, owns, step_of};
 ghost use Rattle.sets.specs.Sets.{set_width, set_taken};
-ghost use Rattle.theory.specs.Rewrites.{limiting};
+ghost use Rattle.theory.specs.Rewrites.{keeping, limiting};
 ghost use Rattle.theory.specs.Steps.{refusal_number, table, next, drop_siphon, limit_to};
-ghost use Rattle.theory.specs.Tests.{member};
+ghost use Rattle.theory.specs.Tests.{member, takes_from?};
 ghost use Rattle.books.proofs.Housing.{house_keeps, house_refuses};
 ghost use Rattle.books.proofs.Owning.{narrow};
 
@@ -20,9 +20,9 @@ mod conditions;
 use books::Book;
 use books::faults::BookFault;
 use books::step::{Owned, Step};
-use checks::is_reach_only;
+use checks::{flags_of, flags_outside, is_reach_only};
 use conditions::{
-    Spares, StaysInside, has_member, holds_support, is_dry, is_siphon, is_sufficient, members_stand,
+    TakesNone, has_member, holds_support, is_dry, is_siphon, is_sufficient, members_stand,
 };
 use net::{Net, NetFault};
 use rewrites::{keep_where, limit_places};
@@ -66,12 +66,22 @@ fn check_limit(net: &Net<'_>, set: &[u8; 8]) -> Result<(), Refusal>
     Ok(())
 }
 
+// Drops the transitions that take from a set.
+fn drop_consumers(net: &mut Net<'_>, set: &[u8; 8]) -> Result<(), NetFault>
+    ensures exact { Leaves result (view net.new) (view net.old) (keeping (λ t. not (takes_from? (view net.old) (member set.now) t)) (view net.old)) }
+    ensures lent { SameSheet net.new net.old }
+{
+    let flags = flags_of(set);
+    keep_where(net, &TakesNone { flags: &flags })
+}
+
 // Drops the transitions that take from outside a set, and removes the places outside it.
 fn limit_net(net: &mut Net<'_>, set: &[u8; 8]) -> Result<(), NetFault>
     ensures exact { Leaves result (view net.new) (view net.old) (limiting (member set.now) (view net.old)) }
     ensures lent { SameSheet net.new net.old }
 {
-    keep_where(net, &StaysInside { set })?;
+    let outside = flags_outside(set);
+    keep_where(net, &TakesNone { flags: &outside })?;
     limit_places(net, set)
 }
 
@@ -104,7 +114,7 @@ fn rewrite(net: &mut Net<'_>, step: Step<'_>) -> Result<(), NetFault>
     ensures lent { SameSheet net.new net.old }
 {
     match step {
-        Step::DropSiphon(set) => keep_where(net, &Spares { set }),
+        Step::DropSiphon(set) => drop_consumers(net, set),
         Step::LimitTo(set) => limit_net(net, set),
         _ => unreachable!(),
     }

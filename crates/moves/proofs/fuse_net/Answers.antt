@@ -5,7 +5,8 @@ use Rattle.net.specs.States.{view}
 use Rattle.net.proofs.Keeps.{flag_below}
 use Rattle.theory.specs.Rewrites.{fusing}
 use Rattle.moves.specs.Columns.{Added}
-use Rattle.moves.proofs.Fusing.{sums_fit, added_tidy, fused_net, asked_size, size_asked}
+use Rattle.moves.proofs.Fusing.{sums_fit, added_tidy, fused_net}
+use Rattle.moves.proofs.Leaving.{asked_size, size_asked}
 use Rattle.moves.proofs.fuse_net.Goals as goal
 
 pub add_place-requires-clause-places : goal.add_place-requires-clause-places

@@ -13,8 +13,8 @@ returns-in_err-step-clause-exact c =
     let q = bytes_refused 0x20 0x27 (view c.args.net.now) c.args.step.now c.in_ok-check_size.ensures _ c.in_err-step.ensures in
     record { answer = p.1 ∙ rw p.2 q.answer; state = q.state }
 
-pub check-requires : goal.check-requires
-check-requires c = read_own 0x20 0x27 c.args.step.now (plain c.in_ok-step.step) c.in_ok-step.ensures
+pub check-requires-clause-own : goal.check-requires-clause-own
+check-requires-clause-own c = read_own 0x20 0x27 c.args.step.now (plain c.in_ok-step.step) c.in_ok-step.ensures
 
 pub returns-in_err-check-clause-exact : goal.returns-in_err-check-clause-exact
 returns-in_err-check-clause-exact c =
