@@ -5,11 +5,13 @@ usage: tools/step-cost.py [PROGRAM]     (crates/bench/out/bench, built by `sampl
 
 A step's cost is what the program needs for a net and the step, less what it needs to read that net and to print the one that is left.
 Reading is counted on a stream that lacks its last byte, printing on the net that is left, given as a stream of its own. Instructions
-are counted by valgrind's callgrind, so that the numbers do not depend on what else the machine does.
+are counted by valgrind's callgrind, so that the numbers do not depend on what else the machine does. Of an instruction that moves a
+string callgrind counts each byte: so the C library is told to move memory by plain ones.
 """
 import os, re, subprocess, sys, tempfile
 
 PROGRAM = sys.argv[1] if len(sys.argv) > 1 else 'crates/bench/out/bench'
+PLAIN_MOVES = dict(os.environ, GLIBC_TUNABLES='glibc.cpu.hwcaps=-ERMS,-FSRM')
 
 
 def run(data):
@@ -20,7 +22,7 @@ def run(data):
 def cost(data):
     with tempfile.TemporaryDirectory() as folder:
         said = subprocess.run(['valgrind', '--tool=callgrind', f'--callgrind-out-file={folder}/out', PROGRAM],
-                              input=data, capture_output=True).stderr.decode()
+                              input=data, capture_output=True, env=PLAIN_MOVES).stderr.decode()
     return int(re.search(r'Collected : (\d+)', said).group(1))
 
 
