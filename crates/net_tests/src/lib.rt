@@ -18,24 +18,32 @@ mod tests {
         let mut sheet = vec![in rt.alloc(); 7u32; 12_351]?;
         assert_eq!(rt; number(measure(&sheet)), Some(1));
         let mut draft = Draft::start(&mut sheet);
-        assert_eq!(rt; number(draft.place(1, 0)), Some(1));
-        assert_eq!(rt; number(draft.place(1, 9)), Some(1));
-        assert_eq!(rt; number(draft.transition()), Some(1));
-        assert_eq!(rt; number(draft.arc_in(300, 300, 0)), Some(1));
-        assert_eq!(rt; number(draft.arc_out(0, 0, 1)), Some(1));
-        assert_eq!(rt; number(draft.question(4)), Some(1));
-        assert_eq!(rt; number(draft.clear()), Some(1));
-        assert_eq!(rt; refused(read(&mut draft, &RELAY)), Some((1, 0, 0)));
-        assert_eq!(rt; refused(read(&mut draft, &[])), Some((1, 0, 0)));
+        let calls = [
+            number(draft.place(1, 0)),
+            number(draft.place(1, 9)),
+            number(draft.transition()),
+            number(draft.arc_in(300, 300, 0)),
+            number(draft.arc_out(0, 0, 1)),
+            number(draft.question(4)),
+            number(draft.clear()),
+        ];
+        assert_eq!(rt; calls, [Some(1); 7]);
+        let readings = [
+            refused(read(&mut draft, &RELAY)),
+            refused(read(&mut draft, &[])),
+        ];
+        assert_eq!(rt; readings, [Some((1, 0, 0)); 2]);
         let net = draft.finish();
-        assert_eq!(rt; seen(&net, Look::Transitions), Err(1));
-        assert_eq!(rt; seen(&net, Look::Question), Err(1));
-        assert_eq!(rt; seen(&net, Look::Stands(0)), Err(1));
-        assert_eq!(rt; seen(&net, Look::Put(0, 0)), Err(1));
+        let looks = [
+            seen(&net, Look::Transitions),
+            seen(&net, Look::Question),
+            seen(&net, Look::Stands(0)),
+            seen(&net, Look::Put(0, 0)),
+        ];
+        assert_eq!(rt; looks, [Err(1); 4]);
         let Net { sheet, .. } = net;
         assert!(rt; sheet.len() == 12_351);
-        assert_eq!(rt; sheet[0], 7);
-        assert_eq!(rt; sheet[12_350], 7);
+        assert_eq!(rt; [sheet[0], sheet[12_350]], [7, 7]);
         Ok(())
     }
 
@@ -44,22 +52,34 @@ mod tests {
         let mut sheet = vec![in rt.alloc(); 7u32; 12_352]?;
         assert_eq!(rt; number(measure(&sheet)), None);
         let mut draft = Draft::start(&mut sheet);
-        assert_eq!(rt; number(draft.place(0, 2)), Some(6));
-        assert_eq!(rt; number(draft.place(4_294_967_295, 1)), None);
-        assert_eq!(rt; number(draft.arc_in(0, 300, 0)), Some(8));
-        assert_eq!(rt; number(draft.transition()), None);
-        assert_eq!(rt; number(draft.arc_in(300, 0, 1)), Some(8));
-        assert_eq!(rt; number(draft.arc_in(0, 1, 0)), Some(9));
-        assert_eq!(rt; number(draft.arc_in(0, 300, 0)), Some(9));
-        assert_eq!(rt; number(draft.arc_in(0, 0, 0)), Some(10));
-        assert_eq!(rt; number(draft.arc_in(0, 0, 65_536)), Some(10));
-        assert_eq!(rt; number(draft.arc_in(0, 0, 65_535)), None);
-        assert_eq!(rt; number(draft.arc_in(0, 0, 65_536)), Some(10));
-        assert_eq!(rt; number(draft.arc_in(0, 0, 1)), Some(11));
-        assert_eq!(rt; number(draft.arc_out(0, 0, 3)), None);
-        assert_eq!(rt; number(draft.arc_out(0, 0, 3)), Some(11));
-        assert_eq!(rt; number(draft.question(4)), Some(12));
-        assert_eq!(rt; number(draft.question(3)), None);
+        let first = [
+            number(draft.place(0, 2)),
+            number(draft.place(4_294_967_295, 1)),
+            number(draft.arc_in(0, 300, 0)),
+            number(draft.transition()),
+            number(draft.arc_in(300, 0, 1)),
+            number(draft.arc_in(0, 1, 0)),
+            number(draft.arc_in(0, 300, 0)),
+        ];
+        assert_eq!(rt;
+            first,
+            [Some(6), None, Some(8), None, Some(8), Some(9), Some(9)]
+        );
+        let weights = [
+            number(draft.arc_in(0, 0, 0)),
+            number(draft.arc_in(0, 0, 65_536)),
+            number(draft.arc_in(0, 0, 65_535)),
+            number(draft.arc_in(0, 0, 65_536)),
+            number(draft.arc_in(0, 0, 1)),
+            number(draft.arc_out(0, 0, 3)),
+            number(draft.arc_out(0, 0, 3)),
+        ];
+        assert_eq!(rt;
+            weights,
+            [Some(10), Some(10), None, Some(10), Some(11), None, Some(11)]
+        );
+        let questions = [number(draft.question(4)), number(draft.question(3))];
+        assert_eq!(rt; questions, [Some(12), None]);
         Ok(())
     }
 
@@ -74,14 +94,17 @@ mod tests {
         for _ in 0..96 {
             assert_eq!(rt; number(draft.transition()), None);
         }
-        assert_eq!(rt; number(draft.transition()), Some(7));
-        assert_eq!(rt; number(draft.arc_out(95, 63, 9)), None);
+        let last = [number(draft.transition()), number(draft.arc_out(95, 63, 9))];
+        assert_eq!(rt; last, [Some(7), None]);
         let net = draft.finish();
-        assert_eq!(rt; seen(&net, Look::Transitions), Ok(96));
-        assert_eq!(rt; seen(&net, Look::Put(95, 63)), Ok(9));
-        assert_eq!(rt; seen(&net, Look::Take(96, 63)), Err(8));
-        assert_eq!(rt; seen(&net, Look::Take(95, 64)), Err(9));
-        assert_eq!(rt; seen(&net, Look::Mark(63)), Ok(5));
+        let looks = [
+            seen(&net, Look::Transitions),
+            seen(&net, Look::Put(95, 63)),
+            seen(&net, Look::Take(96, 63)),
+            seen(&net, Look::Take(95, 64)),
+            seen(&net, Look::Mark(63)),
+        ];
+        assert_eq!(rt; looks, [Ok(96), Ok(9), Err(8), Err(9), Ok(5)]);
         let Net { sheet, .. } = net;
         assert!(rt; sheet.len() == 12_352);
         assert_eq!(rt; sheet[12_351], 9);
@@ -94,19 +117,28 @@ mod tests {
         let mut draft = Draft::start(&mut sheet);
         assert!(rt; read(&mut draft, &RELAY).is_ok());
         let net = draft.finish();
-        assert_eq!(rt; seen(&net, Look::Transitions), Ok(2));
-        assert_eq!(rt; seen(&net, Look::Question), Ok(1));
-        assert_eq!(rt; seen(&net, Look::Stands(2)), Ok(1));
-        assert_eq!(rt; seen(&net, Look::Stands(3)), Ok(0));
-        assert_eq!(rt; seen(&net, Look::Stands(4_000_000_000)), Ok(0));
-        assert_eq!(rt; seen(&net, Look::Support(1)), Ok(0));
-        assert_eq!(rt; seen(&net, Look::Support(2)), Ok(1));
-        assert_eq!(rt; seen(&net, Look::Support(3)), Err(9));
-        assert_eq!(rt; seen(&net, Look::Mark(0)), Ok(1));
-        assert_eq!(rt; seen(&net, Look::Take(1, 1)), Ok(1));
-        assert_eq!(rt; seen(&net, Look::Take(1, 2)), Ok(0));
-        assert_eq!(rt; seen(&net, Look::Put(1, 2)), Ok(1));
-        assert_eq!(rt; seen(&net, Look::Put(2, 9)), Err(8));
+        let of_places = [
+            seen(&net, Look::Transitions),
+            seen(&net, Look::Question),
+            seen(&net, Look::Stands(2)),
+            seen(&net, Look::Stands(3)),
+            seen(&net, Look::Stands(4_000_000_000)),
+            seen(&net, Look::Support(1)),
+            seen(&net, Look::Support(2)),
+            seen(&net, Look::Support(3)),
+        ];
+        assert_eq!(rt;
+            of_places,
+            [Ok(2), Ok(1), Ok(1), Ok(0), Ok(0), Ok(0), Ok(1), Err(9)]
+        );
+        let of_arcs = [
+            seen(&net, Look::Mark(0)),
+            seen(&net, Look::Take(1, 1)),
+            seen(&net, Look::Take(1, 2)),
+            seen(&net, Look::Put(1, 2)),
+            seen(&net, Look::Put(2, 9)),
+        ];
+        assert_eq!(rt; of_arcs, [Ok(1), Ok(1), Ok(0), Ok(1), Err(8)]);
         Ok(())
     }
 
@@ -115,16 +147,24 @@ mod tests {
         let mut sheet = vec![in rt.alloc(); 7u32; 12_352]?;
         let mut draft = Draft::start(&mut sheet);
         assert_eq!(rt; number(draft.place(1, 1)), None);
-        assert_eq!(rt; refused(read(&mut draft, &RELAY[0..41])), Some((2, 40, 9)));
-        assert_eq!(rt; refused(read(&mut draft, &RELAY[0..40])), Some((2, 40, 9)));
-        assert_eq!(rt;
+        let readings = [
+            refused(read(&mut draft, &RELAY[0..41])),
+            refused(read(&mut draft, &RELAY[0..40])),
             refused(read(&mut draft, &[0x11, 0x11, 0x12, 1, 0, 0, 1])),
-            Some((9, 2, 2))
+            refused(read(&mut draft, &[0x11, 0x77])),
+        ];
+        assert_eq!(rt;
+            readings,
+            [
+                Some((2, 40, 9)),
+                Some((2, 40, 9)),
+                Some((9, 2, 2)),
+                Some((3, 1, 1))
+            ]
         );
-        assert_eq!(rt; refused(read(&mut draft, &[0x11, 0x77])), Some((3, 1, 1)));
         let net = draft.finish();
-        assert_eq!(rt; seen(&net, Look::Transitions), Ok(0));
-        assert_eq!(rt; seen(&net, Look::Stands(0)), Ok(0));
+        let looks = [seen(&net, Look::Transitions), seen(&net, Look::Stands(0))];
+        assert_eq!(rt; looks, [Ok(0), Ok(0)]);
         let Net { sheet, .. } = net;
         assert!(rt; sheet.len() == 12_352);
         assert_eq!(rt; sheet[0], 0);
