@@ -22,31 +22,31 @@ mod tests {
         let mut draft = Draft::start(&mut sheet);
         assert!(rt; read(&mut draft, &RELAY).is_ok());
         let mut net = draft.finish();
-        assert_eq!(rt;
+        let steps = [
             refused(&mut net, &[0x29, 3, 0, 0, 0, 0, 0, 0, 0]),
-            Some(16)
-        );
-        assert_eq!(rt; refused(&mut net, &[0x29, 8, 0, 0, 0, 0, 0, 0, 0]), Some(9));
-        assert_eq!(rt;
+            refused(&mut net, &[0x29, 8, 0, 0, 0, 0, 0, 0, 0]),
             refused(&mut net, &[0x29, 4, 0, 0, 0, 0, 0, 0, 0]),
-            Some(17)
-        );
-        assert_eq!(rt;
             refused(&mut net, &[0x28, 0, 0, 0, 0, 0, 0, 0, 0]),
-            Some(15)
-        );
-        assert_eq!(rt;
             refused(&mut net, &[0x28, 2, 0, 0, 0, 0, 0, 0, 0]),
-            Some(17)
-        );
-        assert_eq!(rt;
             refused(&mut net, &[0x28, 1, 0, 0, 0, 0, 0, 0, 0]),
-            Some(18)
+            refused(&mut net, &[0x28, 1, 0, 0, 0, 0, 0, 0]),
+            refused(&mut net, &[0x29, 7, 0, 0, 0, 0, 0, 0, 0]),
+        ];
+        assert_eq!(rt;
+            steps,
+            [
+                Some(16),
+                Some(9),
+                Some(17),
+                Some(15),
+                Some(17),
+                Some(18),
+                Some(2),
+                None
+            ]
         );
-        assert_eq!(rt; refused(&mut net, &[0x28, 1, 0, 0, 0, 0, 0, 0]), Some(2));
-        assert_eq!(rt; refused(&mut net, &[0x29, 7, 0, 0, 0, 0, 0, 0, 0]), None);
-        assert_eq!(rt; seen(&net, Look::Transitions), Ok(2));
-        assert_eq!(rt; seen(&net, Look::Mark(0)), Ok(1));
+        let looks = [seen(&net, Look::Transitions), seen(&net, Look::Mark(0))];
+        assert_eq!(rt; looks, [Ok(2), Ok(1)]);
         Ok(())
     }
 
@@ -56,16 +56,25 @@ mod tests {
         let mut draft = Draft::start(&mut sheet);
         assert!(rt; read(&mut draft, &RELAY).is_ok());
         let mut net = draft.finish();
-        assert_eq!(rt; refused(&mut net, &[0x2d, 0, 0, 2]), Some(18));
-        assert_eq!(rt; refused(&mut net, &[0x2d, 0, 0, 0]), Some(15));
-        assert_eq!(rt; refused(&mut net, &[0x2d, 1, 0, 1]), Some(17));
-        assert_eq!(rt; refused(&mut net, &[0x2e, 0, 2, 0, 1]), Some(16));
-        assert_eq!(rt; refused(&mut net, &[0x2e, 0, 1, 0, 1]), Some(17));
-        assert_eq!(rt; refused(&mut net, &[0x2d, 0, 0, 1]), None);
-        assert_eq!(rt; seen(&net, Look::Mark(0)), Ok(0));
-        assert_eq!(rt; seen(&net, Look::Mark(1)), Ok(1));
-        assert_eq!(rt; seen(&net, Look::Mark(2)), Ok(0));
-        assert_eq!(rt; seen(&net, Look::Transitions), Ok(2));
+        let steps = [
+            refused(&mut net, &[0x2d, 0, 0, 2]),
+            refused(&mut net, &[0x2d, 0, 0, 0]),
+            refused(&mut net, &[0x2d, 1, 0, 1]),
+            refused(&mut net, &[0x2e, 0, 2, 0, 1]),
+            refused(&mut net, &[0x2e, 0, 1, 0, 1]),
+            refused(&mut net, &[0x2d, 0, 0, 1]),
+        ];
+        assert_eq!(rt;
+            steps,
+            [Some(18), Some(15), Some(17), Some(16), Some(17), None]
+        );
+        let looks = [
+            seen(&net, Look::Mark(0)),
+            seen(&net, Look::Mark(1)),
+            seen(&net, Look::Mark(2)),
+            seen(&net, Look::Transitions),
+        ];
+        assert_eq!(rt; looks, [Ok(0), Ok(1), Ok(0), Ok(2)]);
         Ok(())
     }
 
@@ -75,16 +84,22 @@ mod tests {
         let mut draft = Draft::start(&mut sheet);
         assert!(rt; read(&mut draft, &RELAY).is_ok());
         let mut net = draft.finish();
-        assert_eq!(rt; refused(&mut net, &[0x2a, 3]), Some(9));
-        assert_eq!(rt; refused(&mut net, &[0x2a, 2]), Some(16));
-        assert_eq!(rt; refused(&mut net, &[0x2a, 1]), Some(17));
-        assert_eq!(rt; refused(&mut net, &[0x2b, 1]), None);
-        assert_eq!(rt; refused(&mut net, &[0x2b, 1]), Some(9));
-        assert_eq!(rt; seen(&net, Look::Transitions), Ok(1));
-        assert_eq!(rt; seen(&net, Look::Stands(1)), Ok(0));
-        assert_eq!(rt; seen(&net, Look::Take(0, 0)), Ok(1));
-        assert_eq!(rt; seen(&net, Look::Put(0, 2)), Ok(1));
-        assert_eq!(rt; seen(&net, Look::Mark(0)), Ok(1));
+        let steps = [
+            refused(&mut net, &[0x2a, 3]),
+            refused(&mut net, &[0x2a, 2]),
+            refused(&mut net, &[0x2a, 1]),
+            refused(&mut net, &[0x2b, 1]),
+            refused(&mut net, &[0x2b, 1]),
+        ];
+        assert_eq!(rt; steps, [Some(9), Some(16), Some(17), None, Some(9)]);
+        let looks = [
+            seen(&net, Look::Transitions),
+            seen(&net, Look::Stands(1)),
+            seen(&net, Look::Take(0, 0)),
+            seen(&net, Look::Put(0, 2)),
+            seen(&net, Look::Mark(0)),
+        ];
+        assert_eq!(rt; looks, [Ok(1), Ok(0), Ok(1), Ok(1), Ok(1)]);
         Ok(())
     }
 
