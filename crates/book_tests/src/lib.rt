@@ -26,24 +26,56 @@ mod tests {
         let mut draft = Draft::start(&mut sheet);
         assert!(rt; read(&mut draft, &ways(1)).is_ok());
         let mut net = draft.finish();
-        assert_eq!(rt; refused(&mut net, &[]), Some(2));
-        assert_eq!(rt; refused(&mut net, &[0x7f]), Some(3));
-        assert_eq!(rt; refused(&mut net, &[0x20, 1]), Some(2));
-        assert_eq!(rt; refused(&mut net, &[0x20, 0, 1, 2]), Some(4));
-        assert_eq!(rt; refused(&mut net, &[0x80, 0, 0]), Some(2));
-        assert_eq!(rt; refused(&mut net, &[0x80, 9, 0, 0]), Some(100));
-        assert_eq!(rt; refused(&mut net, &[0x80, 0, 0, 3]), Some(101));
-        assert_eq!(rt; refused(&mut net, &[0x25, 0]), Some(13));
-        assert_eq!(rt; refused(&mut net, &[0x20, 9, 0]), Some(8));
-        assert_eq!(rt; refused(&mut net, &[0x24, 0, 9]), Some(9));
-        assert_eq!(rt; refused(&mut net, &[0x20, 1, 1]), Some(14));
-        assert_eq!(rt; refused(&mut net, &[0x21, 2, 0, 0, 0]), Some(15));
-        assert_eq!(rt; refused(&mut net, &[0x26, 2]), Some(16));
-        assert_eq!(rt; refused(&mut net, &[0x26, 0]), Some(17));
-        assert_eq!(rt; refused(&mut net, &[0x24, 0, 0]), Some(18));
-        assert_eq!(rt; net.look(Look::Transitions), Ok(4));
-        assert_eq!(rt; net.look(Look::Mark(0)), Ok(2));
-        assert_eq!(rt; net.look(Look::Put(3, 2)), Ok(1));
+        let bytes = [
+            refused(&mut net, &[]),
+            refused(&mut net, &[0x7f]),
+            refused(&mut net, &[0x20, 1]),
+            refused(&mut net, &[0x20, 0, 1, 2]),
+            refused(&mut net, &[0x80, 0, 0]),
+            refused(&mut net, &[0x80, 9, 0, 0]),
+            refused(&mut net, &[0x80, 0, 0, 3]),
+        ];
+        assert_eq!(rt;
+            bytes,
+            [
+                Some(2),
+                Some(3),
+                Some(2),
+                Some(4),
+                Some(2),
+                Some(100),
+                Some(101)
+            ]
+        );
+        let steps = [
+            refused(&mut net, &[0x25, 0]),
+            refused(&mut net, &[0x20, 9, 0]),
+            refused(&mut net, &[0x24, 0, 9]),
+            refused(&mut net, &[0x20, 1, 1]),
+            refused(&mut net, &[0x21, 2, 0, 0, 0]),
+            refused(&mut net, &[0x26, 2]),
+            refused(&mut net, &[0x26, 0]),
+            refused(&mut net, &[0x24, 0, 0]),
+        ];
+        assert_eq!(rt;
+            steps,
+            [
+                Some(13),
+                Some(8),
+                Some(9),
+                Some(14),
+                Some(15),
+                Some(16),
+                Some(17),
+                Some(18)
+            ]
+        );
+        let looks = [
+            net.look(Look::Transitions),
+            net.look(Look::Mark(0)),
+            net.look(Look::Put(3, 2)),
+        ];
+        assert_eq!(rt; looks, [Ok(4), Ok(2), Ok(1)]);
         Ok(())
     }
 
@@ -53,17 +85,26 @@ mod tests {
         let mut draft = Draft::start(&mut sheet);
         assert!(rt; read(&mut draft, &ways(1)).is_ok());
         let mut net = draft.finish();
-        assert_eq!(rt; refused(&mut net, &[0x80, 0, 0, 2]), None);
-        assert_eq!(rt; refused(&mut net, &[0x21, 2, 0, 0, 2]), None);
+        let fused = [
+            refused(&mut net, &[0x80, 0, 0, 2]),
+            refused(&mut net, &[0x21, 2, 0, 0, 2]),
+        ];
+        assert_eq!(rt; fused, [None, None]);
         assert_eq!(rt; net.look(Look::Put(2, 2)), Ok(1));
-        assert_eq!(rt; refused(&mut net, &[0x22, 2, 0, 1]), None);
-        assert_eq!(rt; refused(&mut net, &[0x22, 2, 0, 1]), Some(8));
-        assert_eq!(rt; net.look(Look::Transitions), Ok(2));
-        assert_eq!(rt; net.look(Look::Take(0, 0)), Ok(1));
-        assert_eq!(rt; net.look(Look::Put(0, 1)), Ok(1));
-        assert_eq!(rt; net.look(Look::Take(1, 1)), Ok(1));
-        assert_eq!(rt; net.look(Look::Put(1, 2)), Ok(1));
-        assert_eq!(rt; net.look(Look::Stands(2)), Ok(1));
+        let dropped = [
+            refused(&mut net, &[0x22, 2, 0, 1]),
+            refused(&mut net, &[0x22, 2, 0, 1]),
+        ];
+        assert_eq!(rt; dropped, [None, Some(8)]);
+        let looks = [
+            net.look(Look::Transitions),
+            net.look(Look::Take(0, 0)),
+            net.look(Look::Put(0, 1)),
+            net.look(Look::Take(1, 1)),
+            net.look(Look::Put(1, 2)),
+            net.look(Look::Stands(2)),
+        ];
+        assert_eq!(rt; looks, [Ok(2), Ok(1), Ok(1), Ok(1), Ok(1), Ok(1)]);
         Ok(())
     }
 
