@@ -33,28 +33,33 @@ mod tests {
         let mut draft = Draft::start(&mut sheet);
         assert!(rt; read(&mut draft, &WAYS).is_ok());
         let mut session = Session::open(draft);
-        assert_eq!(rt; number(session.propose(&Basics, &[])), Some(2));
-        assert_eq!(rt; number(session.propose(&Basics, &[0x28, 1])), Some(3));
-        assert_eq!(rt; number(session.propose(&Basics, &[0x21, 2, 0, 0])), Some(2));
-        assert_eq!(rt;
+        let refused = [
+            number(session.propose(&Basics, &[])),
+            number(session.propose(&Basics, &[0x28, 1])),
+            number(session.propose(&Basics, &[0x21, 2, 0, 0])),
             number(session.propose(&Basics, &[0x21, 2, 0, 0, 2, 0])),
-            Some(4)
-        );
-        assert_eq!(rt; number(session.propose(&Basics, &[0x26, 0])), Some(17));
-        assert_eq!(rt; told(session.feed(&Basics, &[])), Ok(0));
-        assert_eq!(rt; seen(&session, Look::Transitions), Ok(4));
-        assert_eq!(rt; number(session.propose(&Basics, &[0x21, 2, 0, 0, 2])), None);
-        assert_eq!(rt; seen(&session, Look::Transitions), Ok(3));
+            number(session.propose(&Basics, &[0x26, 0])),
+        ];
+        assert_eq!(rt; refused, [Some(2), Some(3), Some(2), Some(4), Some(17)]);
+        let empty = told(session.feed(&Basics, &[]));
+        let before = seen(&session, Look::Transitions);
+        let fused = number(session.propose(&Basics, &[0x21, 2, 0, 0, 2]));
+        let after = seen(&session, Look::Transitions);
+        assert_eq!(rt; (empty, before, fused, after), (Ok(0), Ok(4), None, Ok(3)));
+        let stopped = told(session.feed(&Basics, &[0x22, 2, 0, 1, 0x26, 2, 0x20, 0, 1]));
+        let left = seen(&session, Look::Transitions);
+        let short = told(session.feed(&Basics, &[0x24, 0]));
         assert_eq!(rt;
-            told(session.feed(&Basics, &[0x22, 2, 0, 1, 0x26, 2, 0x20, 0, 1])),
-            Err((16, 4, 1))
+            (stopped, left, short),
+            (Err((16, 4, 1)), Ok(2), Err((2, 0, 0)))
         );
-        assert_eq!(rt; seen(&session, Look::Transitions), Ok(2));
-        assert_eq!(rt; told(session.feed(&Basics, &[0x24, 0])), Err((2, 0, 0)));
-        assert_eq!(rt; seen(&session, Look::Question), Ok(3));
-        assert_eq!(rt; seen(&session, Look::Put(1, 2)), Ok(1));
-        assert_eq!(rt; seen(&session, Look::Put(2, 2)), Err(8));
-        assert_eq!(rt; seen(&session, Look::Mark(3)), Err(9));
+        let looks = [
+            seen(&session, Look::Question),
+            seen(&session, Look::Put(1, 2)),
+            seen(&session, Look::Put(2, 2)),
+            seen(&session, Look::Mark(3)),
+        ];
+        assert_eq!(rt; looks, [Ok(3), Ok(1), Err(8), Err(9)]);
         Ok(())
     }
 
@@ -62,15 +67,22 @@ mod tests {
     fn wrong_size(rt: HostRuntime) -> Result<(), Fail> {
         let mut sheet = vec![in rt.alloc(); 7u32; 12_353]?;
         let mut session = Session::open(Draft::start(&mut sheet));
-        assert_eq!(rt; number(session.propose(&Basics, &[])), Some(1));
-        assert_eq!(rt; number(session.propose(&Basics, &[0x26, 0])), Some(1));
-        assert_eq!(rt; told(session.feed(&Basics, &[])), Err((1, 0, 0)));
-        assert_eq!(rt; told(session.feed(&Basics, &[0x7f])), Err((1, 0, 0)));
+        let proposals = [
+            number(session.propose(&Basics, &[])),
+            number(session.propose(&Basics, &[0x26, 0])),
+        ];
+        assert_eq!(rt; proposals, [Some(1), Some(1)]);
+        let feeds = [
+            told(session.feed(&Basics, &[])),
+            told(session.feed(&Basics, &[0x7f])),
+        ];
+        assert_eq!(rt; feeds, [Err((1, 0, 0)), Err((1, 0, 0))]);
         assert_eq!(rt; seen(&session, Look::Stands(0)), Err(1));
         let sheet = session.close();
-        assert!(rt; sheet.len() == 12_353);
-        assert_eq!(rt; sheet[0], 7);
-        assert_eq!(rt; sheet[12_352], 7);
+        assert_eq!(rt;
+            (sheet.len(), sheet.first(), sheet.last()),
+            (12_353, Some(&7), Some(&7))
+        );
         Ok(())
     }
 
@@ -112,8 +124,11 @@ mod tests {
         let mut draft = Draft::start(&mut sheet);
         assert!(rt; read(&mut draft, &WAYS).is_ok());
         let mut session = Session::open(draft);
-        assert_eq!(rt; number(session.propose(&Basics, &[0x21, 2, 0, 0, 2])), None);
-        assert_eq!(rt; number(session.propose(&Basics, &[0x26, 0])), Some(17));
+        let proposals = [
+            number(session.propose(&Basics, &[0x21, 2, 0, 0, 2])),
+            number(session.propose(&Basics, &[0x26, 0])),
+        ];
+        assert_eq!(rt; proposals, [None, Some(17)]);
         assert_eq!(rt;
             told(session.feed(&Basics, &[0x22, 2, 0, 1, 0x20, 0, 1])),
             Err((17, 4, 1))
