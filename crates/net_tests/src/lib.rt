@@ -13,6 +13,22 @@ mod tests {
         r.err().map(|fault| parts(fault.told()))
     }
 
+    // Adds as many places as a net may have.
+    fn fill_places(draft: &mut Draft<'_>) -> Result<(), NetFault> {
+        for _ in 0..64 {
+            draft.place(5, 0)?;
+        }
+        Ok(())
+    }
+
+    // Adds as many transitions as a net may have.
+    fn fill_transitions(draft: &mut Draft<'_>) -> Result<(), NetFault> {
+        for _ in 0..96 {
+            draft.transition()?;
+        }
+        Ok(())
+    }
+
     #[test]
     fn wrong_size(rt: HostRuntime) -> Result<(), Fail> {
         let mut sheet = vec![in rt.alloc(); 7u32; 12_351]?;
@@ -87,15 +103,14 @@ mod tests {
     fn limits(rt: HostRuntime) -> Result<(), Fail> {
         let mut sheet = vec![in rt.alloc(); 0u32; 12_352]?;
         let mut draft = Draft::start(&mut sheet);
-        for _ in 0..64 {
-            assert_eq!(rt; number(draft.place(5, 0)), None);
-        }
-        assert_eq!(rt; number(draft.place(5, 2)), Some(5));
-        for _ in 0..96 {
-            assert_eq!(rt; number(draft.transition()), None);
-        }
-        let last = [number(draft.transition()), number(draft.arc_out(95, 63, 9))];
-        assert_eq!(rt; last, [Some(7), None]);
+        let calls = [
+            number(fill_places(&mut draft)),
+            number(draft.place(5, 2)),
+            number(fill_transitions(&mut draft)),
+            number(draft.transition()),
+            number(draft.arc_out(95, 63, 9)),
+        ];
+        assert_eq!(rt; calls, [None, Some(5), None, Some(7), None]);
         let net = draft.finish();
         let looks = [
             seen(&net, Look::Transitions),
