@@ -16,6 +16,21 @@ mod tests {
         number(house().take(net, step))
     }
 
+    // Which of the four books refuses a step, and the number of its refusal.
+    fn refuser(net: &mut Net<'_>, step: &[u8]) -> Option<(u8, u8)> {
+        match house().take(net, step) {
+            Ok(()) => None,
+            Err(EitherFault::First(fault)) => Some((1, fault.number())),
+            Err(EitherFault::Second(EitherFault::First(fault))) => Some((2, fault.number())),
+            Err(EitherFault::Second(EitherFault::Second(EitherFault::First(fault)))) => {
+                Some((3, fault.number()))
+            }
+            Err(EitherFault::Second(EitherFault::Second(EitherFault::Second(fault)))) => {
+                Some((4, fault.number()))
+            }
+        }
+    }
+
     #[test]
     fn sets_of_places(rt: HostRuntime) -> Result<(), Fail> {
         let mut sheet = vec![in rt.alloc(); 7u32; 12_352]?;
@@ -107,29 +122,16 @@ mod tests {
     fn which_book_refuses(rt: HostRuntime) -> Result<(), Fail> {
         let mut sheet = vec![in rt.alloc(); 7u32; 12_352]?;
         let mut net = Draft::start(&mut sheet).finish();
-        let Err(EitherFault::First(fault)) = house().take(&mut net, &[0x20, 0, 0]) else {
-            return Err(Fail::new("the first book refuses 20"));
-        };
-        assert_eq!(rt; fault.number(), 8);
-        let Err(EitherFault::Second(EitherFault::First(fault))) = house().take(
-            &mut net,
-            &[0x28, 1, 0, 0, 0, 0, 0, 0, 0],
-        ) else {
-            return Err(Fail::new("the second book refuses 28"));
-        };
-        assert_eq!(rt; fault.number(), 9);
-        let Err(EitherFault::Second(EitherFault::Second(EitherFault::First(fault)))) = house().take(
-            &mut net,
-            &[0x2a, 0],
-        ) else {
-            return Err(Fail::new("the third book refuses 2a"));
-        };
-        assert_eq!(rt; fault.number(), 9);
-        let Err(EitherFault::Second(EitherFault::Second(EitherFault::Second(fault)))) =
-            house().take(&mut net, &[0x2d, 0, 0, 1]) else {
-            return Err(Fail::new("the fourth book refuses 2d"));
-        };
-        assert_eq!(rt; fault.number(), 8);
+        let refusals = [
+            refuser(&mut net, &[0x20, 0, 0]),
+            refuser(&mut net, &[0x28, 1, 0, 0, 0, 0, 0, 0, 0]),
+            refuser(&mut net, &[0x2a, 0]),
+            refuser(&mut net, &[0x2d, 0, 0, 1]),
+        ];
+        assert_eq!(rt;
+            refusals,
+            [Some((1, 8)), Some((2, 9)), Some((3, 9)), Some((4, 8))]
+        );
         Ok(())
     }
 }
