@@ -27,20 +27,27 @@ mod tests {
         session.look(at).map_err(|fault| fault.told().number)
     }
 
+    // The numbers of the refusals of five proposals in a row.
+    fn refused(session: &mut Session<'_>) -> [Option<u8>; 5] {
+        [
+            number(session.propose(&Basics, &[])),
+            number(session.propose(&Basics, &[0x28, 1])),
+            number(session.propose(&Basics, &[0x21, 2, 0, 0])),
+            number(session.propose(&Basics, &[0x21, 2, 0, 0, 2, 0])),
+            number(session.propose(&Basics, &[0x26, 0])),
+        ]
+    }
+
     #[test]
     fn calls_in_a_row(rt: HostRuntime) -> Result<(), Fail> {
         let mut sheet = vec![in rt.alloc(); 7u32; 12_352]?;
         let mut draft = Draft::start(&mut sheet);
         assert!(rt; read(&mut draft, &WAYS).is_ok());
         let mut session = Session::open(draft);
-        let refused = [
-            number(session.propose(&Basics, &[])),
-            number(session.propose(&Basics, &[0x28, 1])),
-            number(session.propose(&Basics, &[0x21, 2, 0, 0])),
-            number(session.propose(&Basics, &[0x21, 2, 0, 0, 2, 0])),
-            number(session.propose(&Basics, &[0x26, 0])),
-        ];
-        assert_eq!(rt; refused, [Some(2), Some(3), Some(2), Some(4), Some(17)]);
+        assert_eq!(rt;
+            refused(&mut session),
+            [Some(2), Some(3), Some(2), Some(4), Some(17)]
+        );
         let empty = told(session.feed(&Basics, &[]));
         let before = seen(&session, Look::Transitions);
         let fused = number(session.propose(&Basics, &[0x21, 2, 0, 0, 2]));
@@ -124,14 +131,12 @@ mod tests {
         let mut draft = Draft::start(&mut sheet);
         assert!(rt; read(&mut draft, &WAYS).is_ok());
         let mut session = Session::open(draft);
-        let proposals = [
-            number(session.propose(&Basics, &[0x21, 2, 0, 0, 2])),
-            number(session.propose(&Basics, &[0x26, 0])),
-        ];
-        assert_eq!(rt; proposals, [None, Some(17)]);
+        let fused = number(session.propose(&Basics, &[0x21, 2, 0, 0, 2]));
+        let refused = number(session.propose(&Basics, &[0x26, 0]));
+        let stopped = told(session.feed(&Basics, &[0x22, 2, 0, 1, 0x20, 0, 1]));
         assert_eq!(rt;
-            told(session.feed(&Basics, &[0x22, 2, 0, 1, 0x20, 0, 1])),
-            Err((17, 4, 1))
+            (fused, refused, stopped),
+            (None, Some(17), Err((17, 4, 1)))
         );
         let ended = session.close();
         let mut fresh = vec![in rt.alloc(); 9u32; 12_352]?;
