@@ -85,17 +85,17 @@ mod tests {
         let mut draft = Draft::start(&mut sheet);
         assert!(rt; read(&mut draft, &ways(1)).is_ok());
         let mut net = draft.finish();
-        let fused = [
+        let taken = [
             refused(&mut net, &[0x80, 0, 0, 2]),
             refused(&mut net, &[0x21, 2, 0, 0, 2]),
         ];
-        assert_eq!(rt; fused, [None, None]);
+        assert_eq!(rt; taken, [None, None]);
         assert_eq!(rt; net.look(Look::Put(2, 2)), Ok(1));
-        let dropped = [
+        let composed = [
             refused(&mut net, &[0x22, 2, 0, 1]),
             refused(&mut net, &[0x22, 2, 0, 1]),
         ];
-        assert_eq!(rt; dropped, [None, Some(8)]);
+        assert_eq!(rt; composed, [None, Some(8)]);
         let looks = [
             net.look(Look::Transitions),
             net.look(Look::Take(0, 0)),

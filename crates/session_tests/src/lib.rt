@@ -50,9 +50,12 @@ mod tests {
         );
         let empty = told(session.feed(&Basics, &[]));
         let before = seen(&session, Look::Transitions);
-        let fused = number(session.propose(&Basics, &[0x21, 2, 0, 0, 2]));
+        let dropped = number(session.propose(&Basics, &[0x21, 2, 0, 0, 2]));
         let after = seen(&session, Look::Transitions);
-        assert_eq!(rt; (empty, before, fused, after), (Ok(0), Ok(4), None, Ok(3)));
+        assert_eq!(rt;
+            (empty, before, dropped, after),
+            (Ok(0), Ok(4), None, Ok(3))
+        );
         let stopped = told(session.feed(&Basics, &[0x22, 2, 0, 1, 0x26, 2, 0x20, 0, 1]));
         let left = seen(&session, Look::Transitions);
         let short = told(session.feed(&Basics, &[0x24, 0]));
@@ -131,11 +134,11 @@ mod tests {
         let mut draft = Draft::start(&mut sheet);
         assert!(rt; read(&mut draft, &WAYS).is_ok());
         let mut session = Session::open(draft);
-        let fused = number(session.propose(&Basics, &[0x21, 2, 0, 0, 2]));
+        let dropped = number(session.propose(&Basics, &[0x21, 2, 0, 0, 2]));
         let refused = number(session.propose(&Basics, &[0x26, 0]));
         let stopped = told(session.feed(&Basics, &[0x22, 2, 0, 1, 0x20, 0, 1]));
         assert_eq!(rt;
-            (fused, refused, stopped),
+            (dropped, refused, stopped),
             (None, Some(17), Err((17, 4, 1)))
         );
         let ended = session.close();
