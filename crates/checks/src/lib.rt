@@ -16,10 +16,12 @@ mod nodes;
 mod rows;
 
 pub use alone::{spares, spares_support, touches_only};
-pub use limits::in_limits;
+pub use limits::{in_limits, rest_fits, rows_fit};
 pub use neighbours::{OnlyConsumer, Source, Touches};
 use net::{MOST_PLACES, Net, Question, Side, flag_at};
-pub use nodes::{Nodes, Place, Test, Transition, every, first, flags, places, some, transitions};
+pub use nodes::{
+    Nodes, Place, Test, Transition, count, every, first, flags, places, some, transitions,
+};
 pub use rows::{marks_of, number_in, weights_of};
 use std::array;
 

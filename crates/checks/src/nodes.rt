@@ -3,7 +3,7 @@ ghost use Rattle.std.specs.Prelude.{◌≡◌, ℕ, ◌<◌, ◌≤◌, Bool, fa
 ghost use Rattle.std.proofs.Common.{arith};
 ghost use Rattle.net.specs.declared.net.Net.{Net};
 ghost use Rattle.net.specs.States.{State, view};
-ghost use Rattle.theory.specs.Tests.{every, some, lowest};
+ghost use Rattle.theory.specs.Tests.{every, some, lowest, those};
 
 use net::{MOST_PLACES, MOST_TRANSITIONS, Net};
 use std::ops::Range;
@@ -95,6 +95,14 @@ pub fn first<T: Test>(net: &Net<'_>, test: &T) -> Option<u8>
     ensures { result ≡ lowest (T.Of.count (view net.now)) (T.Test.holds test.now (view net.now)) }
 {
     T::Of::of(net).find(|i| test.test(net, *i))
+}
+
+// How many nodes there are of which the test holds.
+pub fn count<T: Test>(net: &Net<'_>, test: &T) -> usize
+    ensures count { result ≡ length (those (T.Test.holds test.now (view net.now)) (T.Of.count (view net.now))) }
+    ensures few { result ≤ 96 }
+{
+    T::Of::of(net).filter(|i| test.test(net, *i)).count()
 }
 
 // The flags of the nodes: true for those of which the test holds, false past the last. They are as many as there may be transitions,

@@ -3,6 +3,8 @@ use Rattle.std.specs.Prelude.{◌≡◌, ℕ, ◌+◌, ◌-◌, ◌*◌, ◌<◌
 use Rattle.std.specs.List.{range_with_len, list_all}
 use Rattle.net.specs.declared.net.NetFault.{NetFault}
 use Rattle.net.specs.declared.net.NetFault.TheVariants.{WrongSize, TooManyTransitions, BadWeight}
+use Rattle.net.specs.declared.net.Side.{Side}
+use Rattle.net.specs.declared.net.Side.TheVariants.{Takes, Puts}
 use Rattle.net.specs.Refusals.{Check, ◌unless◌, judged}
 use Rattle.net.specs.Sheets.{Row, number, most_weight, most_transitions}
 use Rattle.net.specs.States.{State, sized, mark}
@@ -20,6 +22,11 @@ product_row Pre s p = pre_row s p
 
 abbrev pub pair_row : Pair → State → Row
 pair_row x s = product_row x.kind s x.p x.h x.f
+
+-- The weight of a row at a place, on one side.
+abbrev pub weight_of : Row → Side → ℕ → ℕ
+weight_of r Takes q = r.takes q
+weight_of r Puts q = r.puts q
 
 -- The 128 numbers of a row are within the limit of weights.
 abbrev pub Weights : List ℕ → Type 0

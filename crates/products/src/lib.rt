@@ -15,6 +15,7 @@ ghost use Rattle.arrayvec.specs.ArrayVec.{array_vec_len};
 
 mod apart;
 mod counts;
+mod limits;
 mod pairs;
 mod tally;
 mod weights;
@@ -22,6 +23,7 @@ mod weights;
 pub use apart::Apart;
 use arrayvec::ArrayVec;
 pub use counts::{Counts, count_by_place};
+pub use limits::products_fit;
 use net::{MOST_PLACES, MOST_TRANSITIONS, Net, NetFault, ROW_SIZE};
 pub use pairs::{Kind, Pair};
 use rewrites::{append_rows, keep_where};

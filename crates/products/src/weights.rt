@@ -104,10 +104,9 @@ fn limited(row: &[u32; ROW_SIZE]) -> Option<[u16; ROW_SIZE]>
 
 impl Pair {
     // How often the feeder's put into p serves the consumer's take.
-    fn factor(self, net: &Net<'_>) -> u32
-        requires { length net.now.sheet.now ≡ 12352 }
+    pub(crate) fn factor(self, net: &Net<'_>) -> u32
         ensures value { result ≡ put (view net.now) self.h self.p / take (view net.now) self.f self.p }
-        ensures few { result ≤ 65535 }
+        ensures few { length net.now.sheet.now ≡ 12352 → result ≤ 65535 }
     {
         put_of(net, self.h, self.p)
             .checked_div(take_of(net, self.f, self.p))

@@ -2,6 +2,7 @@ pub mod Appending
 pub mod Closing
 pub mod Copying
 pub mod Keeping
+mod Leaving
 mod Limiting
 pub mod Marking
 pub mod Sized

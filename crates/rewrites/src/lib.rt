@@ -20,6 +20,9 @@ pub use rows::append_rows;
 use std::array;
 use std::ops::Range;
 
+// As many places are taken out one by one; where more go, whole parts are gone over, several numbers at once.
+const FEW: usize = 3;
+
 // A net's sheet has nothing past its rows: so a rewrite writes only where rows stand. The functions on a sheet ask that it has the right
 // size, which the public calls look at first, and take the number of rows and not the shape, since no field of a net can be lent beside
 // another that is changed. Flags are arrays of fixed size, since nothing is allocated.
@@ -150,8 +153,8 @@ fn limit_part(part: &mut [u32], stays: &[bool; MOST_PLACES])
     }
 }
 
-// Writes 0 at the places that do not stay, in the marks and the rows.
-fn limit_parts(sheet: &mut [u32], n: usize, stays: &[bool; MOST_PLACES])
+// Writes 0 at the places that do not stay, part after part.
+fn limit_by_part(sheet: &mut [u32], n: usize, stays: &[bool; MOST_PLACES])
     requires { (length sheet.old ≡ 12352) × (n ≤ 96) }
     ensures limited { Limited sheet.old sheet.new (λ p. slice_index_or stays.now p false) (1 + 2 * n) }
     ensures size { length sheet.new ≡ 12352 }
@@ -159,6 +162,37 @@ fn limit_parts(sheet: &mut [u32], n: usize, stays: &[bool; MOST_PLACES])
     for part in 0..1 + 2 * n {
         let from = MOST_PLACES * part;
         limit_part(&mut sheet[from..from + MOST_PLACES], stays);
+    }
+}
+
+// Writes 0 at the places that do not stay, place after place.
+fn limit_by_place(sheet: &mut [u32], n: usize, stays: &[bool; MOST_PLACES])
+    requires { (length sheet.old ≡ 12352) × (n ≤ 96) }
+    ensures limited { Limited sheet.old sheet.new (λ p. slice_index_or stays.now p false) (1 + 2 * n) }
+    ensures size { length sheet.new ≡ 12352 }
+{
+    for p in 0..MOST_PLACES {
+        if !stays[p] {
+            clear_place(sheet, n, p);
+        }
+    }
+}
+
+// Do few places go?
+fn few_go(stays: &[bool; MOST_PLACES]) -> bool {
+    stays.iter().filter(|stay| !**stay).count() <= FEW
+}
+
+// Writes 0 at the places that do not stay, in the marks and the rows: by the way that writes less.
+fn limit_parts(sheet: &mut [u32], n: usize, stays: &[bool; MOST_PLACES])
+    requires { (length sheet.old ≡ 12352) × (n ≤ 96) }
+    ensures limited { Limited sheet.old sheet.new (λ p. slice_index_or stays.now p false) (1 + 2 * n) }
+    ensures size { length sheet.new ≡ 12352 }
+{
+    if few_go(stays) {
+        limit_by_place(sheet, n, stays);
+    } else {
+        limit_by_part(sheet, n, stays);
     }
 }
 

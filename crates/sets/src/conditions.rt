@@ -13,7 +13,8 @@ use net::{MOST_PLACES, Net, Side};
 
 // A set is asked of many transitions, so that its flags are made once.
 
-// Does t touch a flagged place on this side?
+// Does t touch a flagged place on this side? Inlined, as `spares` is.
+#[inline(always)]
 #[tactic(auto, using(crate::proofs::Flagging::not_spared))]
 fn touches(net: &Net<'_>, side: Side, flags: &[bool; MOST_PLACES], t: u8) -> bool
     ensures { result ≡ touches? side (view net.now) (flagged flags.now) t }

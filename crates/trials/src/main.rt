@@ -9,12 +9,30 @@ use report::{print, report};
 use std::alloc::Global;
 use std::fs;
 
+// The value of a hex digit. The library `hex` is not used, since it reads capitals too, and refuses a group of odd length.
+fn digit(byte: u8) -> anyhow::Result<u8> {
+    match byte {
+        b'0'..=b'9' => Ok(byte - b'0'),
+        b'a'..=b'f' => Ok(byte - b'a' + 10),
+        _ => Err(anyhow!("a table has a byte that is no hex digit")),
+    }
+}
+
+// Adds the bytes of a group of hex digits. The last digit of an odd number of them is left out.
+fn add_bytes(input: &mut Vec<u8>, digits: &[u8]) -> anyhow::Result<()> {
+    for pair in digits.chunks_exact(2) {
+        let high = digit(pair[0])?;
+        let low = digit(pair[1])?;
+        input.push((high & 15) * 16 + (low & 15))?;
+    }
+    Ok(())
+}
+
 // Adds a group of hex digits as often as it is repeated.
-fn add_group(input: &mut Vec<u8>, heap: Global, group: &str) -> anyhow::Result<()> {
+fn add_group(input: &mut Vec<u8>, group: &str) -> anyhow::Result<()> {
     let (digits, times) = group.split_once('x').unwrap_or((group, "1"));
-    let bytes = hex::decode(heap, digits)?;
     for _ in 0..times.parse::<u32>()? {
-        input.extend_from_slice(&bytes)?;
+        add_bytes(input, digits.as_bytes())?;
     }
     Ok(())
 }
@@ -23,7 +41,7 @@ fn add_group(input: &mut Vec<u8>, heap: Global, group: &str) -> anyhow::Result<(
 fn input_of(heap: Global, text: &str) -> anyhow::Result<Vec<u8>> {
     let mut input = Vec::new(heap);
     for group in text.split(' ') {
-        add_group(&mut input, heap, group)?;
+        add_group(&mut input, group)?;
     }
     Ok(input)
 }
